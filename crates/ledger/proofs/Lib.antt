@@ -1,0 +1,5 @@
+pub mod Counting
+pub mod Gathering
+pub mod Posting
+pub mod Spotting
+pub mod Stating

@@ -1,0 +1,4 @@
+pub mod Accounts
+pub mod Billed
+pub mod Files
+pub mod Written

@@ -1,0 +1,6 @@
+mod Decimals
+mod Listing
+mod Rows
+mod Walks
+mod Pairs
+mod Sofar

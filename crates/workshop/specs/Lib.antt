@@ -1,0 +1,3 @@
+pub mod Cents
+pub mod Charges
+pub mod Credit
