@@ -54,6 +54,7 @@ entry-kept old new k grew line entry h = record {
 abbrev machine-of : Entry → ℕ
 machine-of entry = entry .machine
 
+-- a machine is used by an old entry or by the new one
 used-more : (old new : List (List ℕ)) (entries : List Entry) (entry : Entry) → Grew old new (entry .machine) → Used (length old) entries → Used (length new) (entries ++ entry ∷ [])
 used-more old new entries entry grew used = by grew
   where
@@ -78,6 +79,7 @@ used-more old new entries entry grew used = by grew
         ))
         (cases-lt k (length old))
 
+-- the log has what the lines seen say
 pub record LogSofar (text : List ℕ) (header members : List (List ℕ)) (table : Table) (log : Log) : Type 0 where
   pub seen : List (ℕ × List (List ℕ))
   pub left : Seen text header seen table
@@ -85,6 +87,7 @@ pub record LogSofar (text : List ℕ) (header members : List (List ℕ)) (table 
   pub machines : Sound (log .machines)
   pub used : Used (length (names-of (log .machines))) (vec-items (log .entries))
 
+-- one line more
 pub one-entry : {text : List ℕ} {header members : List (List ℕ)} {table : Table} {log : Log} {new : Table} {line : Line} {entries : Vec Entry Global} {machines : Names} {entry : Entry} → LogSofar text header members table log → Step table new line → EntryRead header members (log .machines) machines line entry → vec-items entries ≡ vec-items (log .entries) ++ entry ∷ [] → LogSofar text header members new (record { entries = entries; machines = machines })
 one-entry {text} {header} {members} {table} {log} {new} {line} {entries} {machines} {entry} old step one pushed =
     let before = names-of (log .machines) in
@@ -99,6 +102,7 @@ one-entry {text} {header} {members} {table} {log} {new} {line} {entries} {machin
       used = subst (Used (length after)) (sym pushed) (used-more before after es entry (one .grew) (old .used));
     }
 
+-- the credits have what the lines seen say
 pub record CreditsSofar (text : List ℕ) (header : List (List ℕ)) (table : Table) (credits : Credits) : Type 0 where
   pub seen : List (ℕ × List (List ℕ))
   pub left : Seen text header seen table

@@ -7,7 +7,7 @@ use Prim.Native.Nat.{ℕ, _+_, _-_, _^_, _≤_, _<_, min}
 use native.Mathlib.Omega.{arith}
 use lib.Dec.{eqb}
 use lib.ListN.{length, take, drop}
-use Rattle.std.proofs.shelf.Lists.{drop-all, drop-take, length-drop, length-map, length-take, take-append-drop, take-at, take-take}
+use Rattle.std.proofs.shelf.Lists.{drop-all, drop-take, length-drop, length-map, length-take, take-append-drop, take-take}
 use Rattle.std.proofs.shelf.Sums.{countBy-le-length, sumBy-append}
 use Rattle.csv.specs.Grammar.{RowOf, count-of}
 use Rattle.csv.specs.Reads.{RowAt, cells}
@@ -18,8 +18,8 @@ use denote.Ref.{RefT}
 use Rattle.reading.specs.declared.failure.Failure.{Failure}
 use Rattle.reading.specs.declared.failure.Failure.the-variants.{Memory, Rejected}
 use Rattle.reading.specs.declared.table.Table.{Table}
-use Rattle.reading.specs.Tables.{Lines, end, blank, more, feeds, HasLine, OnLine, TableOf, Begins}
-use Rattle.reading.specs.Parts.{RowOk, Placed, Opened, Holds}
+use Rattle.reading.specs.Tables.{Lines, end, blank, more, feeds, HasLine, OnLine, Begins}
+use Rattle.reading.specs.Parts.{RowOk, Placed, Opened}
 
 -- the line on which the place at of text stands
 abbrev pub line-at : List ℕ → ℕ → ℕ

@@ -19,6 +19,7 @@ use Rattle.csv.specs.Grammar.{count-of}
 use Rattle.csv.specs.Reads.{NoRowAt, RowAt, cells}
 use Rattle.csv.specs.declared.Fault.{Fault}
 use Rattle.csv.specs.declared.Row.{Row}
+use Rattle.workshop.specs.declared.usage.Usage.{Usage}
 use Rattle.reading.specs.declared.credits.Credit.{Credit}
 use Rattle.reading.specs.declared.credits.Credits.{Credits}
 use Rattle.reading.specs.declared.failure.Column.{Column}
@@ -31,7 +32,7 @@ use Rattle.reading.specs.declared.log.Entry.{Entry}
 use Rattle.reading.specs.declared.names.Names.{Names}
 use Rattle.reading.specs.declared.table.Line.{Line}
 use Rattle.reading.specs.declared.table.Table.{Table}
-use Rattle.reading.specs.Books.{EntryOf, NameOf}
+use Rattle.reading.specs.Books.{EntryOf, NameOf, RateOf}
 use Rattle.reading.specs.Columns.{name-of, most-of, optional}
 use Rattle.reading.specs.Named.{names-of, NamedAt, Sound}
 use Rattle.reading.specs.Numbers.{Writes}
@@ -60,6 +61,10 @@ pub record Grown (old new : Names) (name : List ℕ) (k : ℕ) : Type 0 where
 -- the fields of a line, as lists of bytes
 abbrev pub fields-of : Line → List (List ℕ)
 fields-of line = map vec-items (vec-items (line .fields))
+
+-- field i of a line, which is empty past the last one
+abbrev pub field-of : Line → ℕ → List ℕ
+field-of line i = nth (fields-of line) i
 
 -- where a line is rejected, it is line n
 abbrev pub AtLine : ℕ → Failure → Type 0
@@ -149,6 +154,11 @@ pub record Located (header : List (List ℕ)) (at : Columns) : Type 0 where
   pub start : OnlyAt header Start (at .start)
   pub minutes : OnlyAt header Minutes (at .minutes)
   pub rate : OnlyAt header Rate (at .rate)
+
+-- usage is what a line says
+pub record UsageRead (line : Line) (at : Columns) (usage : Usage) : Type 0 where
+  pub minutes : Writes (field-of line (at .minutes)) (usage .minutes)
+  pub rate : RateOf (usage .rate) (field-of line (at .rate))
 
 -- new has the names of old, and at most one more, at place k
 abbrev pub Grew : List (List ℕ) → List (List ℕ) → ℕ → Type 0

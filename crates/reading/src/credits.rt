@@ -50,6 +50,7 @@ impl Credits {
     }
 }
 
+// The credits that a text holds.
 pub fn read_credits(heap: Global, text: &[u8]) -> Result<Credits, Failure>
     ensures cases { λ r. ⌜ Cases r (λ credits. CreditsOf (now (text .entry)) credits) (λ e. OnLine (now (text .entry)) e) ⌝ }
 {

@@ -2,11 +2,10 @@ ghost use mathlib.Core.List.{List};
 ghost use Prim.Native.Nat.{ℕ};
 ghost use Rattle.std.specs.Results.{Cases};
 ghost use Rattle.csv.specs.Reads.{cells};
-ghost use Rattle.reading.specs.Books.{NameOf, RateOf, LogOf};
-ghost use Rattle.reading.specs.Numbers.{Writes};
+ghost use Rattle.reading.specs.Books.{NameOf, LogOf};
 ghost use Rattle.reading.specs.Named.{names-of, Sound};
-ghost use Rattle.reading.specs.Tables.{nth, OnLine};
-ghost use Rattle.reading.specs.Parts.{fields-of, AtLine, Located, MachineRead, EntryRead};
+ghost use Rattle.reading.specs.Tables.{OnLine};
+ghost use Rattle.reading.specs.Parts.{field-of, AtLine, Located, UsageRead, MachineRead, EntryRead};
 use crate::failure::Column;
 use crate::failure::Failure;
 use crate::failure::FailureFromAlloc;
@@ -60,8 +59,9 @@ fn find_columns(header: &Row) -> Result<Columns, Failure>
     })
 }
 
+// The minutes and the rate, which is 0 where none is given.
 fn read_usage(heap: Global, at: Columns, line: &Line) -> Result<Usage, Failure>
-    ensures cases { λ r. ⌜ Cases r (λ usage. Writes (nth (fields-of (now (line .entry))) (at .minutes)) (usage .minutes) × RateOf (usage .rate) (nth (fields-of (now (line .entry))) (at .rate))) (λ e. AtLine (now (line .entry) .number) e) ⌝ }
+    ensures cases { λ r. ⌜ Cases r (λ usage. UsageRead (now (line .entry)) at usage) (λ e. AtLine (now (line .entry) .number) e) ⌝ }
 {
     let minutes = line.number(heap, Column::Minutes, at.minutes)?.unwrap_or(0);
     let rate = line.number(heap, Column::Rate, at.rate)?.unwrap_or(0);
@@ -71,8 +71,9 @@ fn read_usage(heap: Global, at: Columns, line: &Line) -> Result<Usage, Failure>
     })
 }
 
+// The place of a line's member.
 fn read_member(heap: Global, at: Columns, line: &Line, members: &Names) -> Result<usize, Failure>
-    ensures cases { λ r. ⌜ Cases r (λ k. Sound (now (members .entry)) → NameOf (names-of (now (members .entry))) k (nth (fields-of (now (line .entry))) (at .member))) (λ e. AtLine (now (line .entry) .number) e) ⌝ }
+    ensures cases { λ r. ⌜ Cases r (λ k. Sound (now (members .entry)) → NameOf (names-of (now (members .entry))) k (field-of (now (line .entry)) (at .member))) (λ e. AtLine (now (line .entry) .number) e) ⌝ }
 {
     let name = line.name(Column::Member, at.member)?;
     match members.find(name) {
@@ -87,13 +88,14 @@ fn read_member(heap: Global, at: Columns, line: &Line, members: &Names) -> Resul
     }
 }
 
+// The place of a line's machine, which joins the others where it is new.
 fn read_machine(
     heap: Global,
     at: Columns,
     line: &Line,
     machines: &mut Names,
 ) -> Result<usize, Failure>
-    ensures cases { λ r. ⌜ Cases r (λ k. Sound (now (machines .entry)) → MachineRead (now (machines .entry)) (now (machines .exit)) (nth (fields-of (now (line .entry))) (at .machine)) k) (λ e. AtLine (now (line .entry) .number) e) ⌝ }
+    ensures cases { λ r. ⌜ Cases r (λ k. Sound (now (machines .entry)) → MachineRead (now (machines .entry)) (now (machines .exit)) (field-of (now (line .entry)) (at .machine)) k) (λ e. AtLine (now (line .entry) .number) e) ⌝ }
 {
     let name = line.name(Column::Machine, at.machine)?;
     match machines.find(name) {
@@ -124,6 +126,7 @@ fn read_entry(
     })
 }
 
+// The log that a text holds, whose members are among those given.
 pub fn read_log(heap: Global, text: &[u8], members: &Names) -> Result<Log, Failure>
     ensures cases { λ r. ⌜ Cases r (λ log. Sound (now (members .entry)) → LogOf (now (text .entry)) (names-of (now (members .entry))) log) (λ e. OnLine (now (text .entry)) e) ⌝ }
 {

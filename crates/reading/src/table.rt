@@ -4,8 +4,7 @@ ghost use Rattle.std.specs.Orderings.{Decides};
 ghost use Rattle.std.specs.Vec.{made};
 ghost use Rattle.csv.specs.Reads.{cells};
 ghost use Rattle.reading.specs.declared.failure.Failure.the-variants.{Rejected};
-ghost use Rattle.reading.specs.Tables.{nth};
-ghost use Rattle.reading.specs.Parts.{fields-of, NameIn, NumberIn, Placed, RowOk, OpenOk, ReadFrom, PlaceIn, Shows};
+ghost use Rattle.reading.specs.Parts.{field-of, NameIn, NumberIn, Placed, RowOk, OpenOk, ReadFrom, PlaceIn, Shows};
 use crate::failure::Column;
 use crate::failure::Failure;
 use crate::failure::FailureFromAlloc;
@@ -132,7 +131,7 @@ pub(crate) fn place(header: &Row, column: Column) -> Result<usize, Failure>
 
 impl Line {
     fn field(&self, i: usize) -> &[u8]
-        ensures value { λ r. ⌜ now r ≡ nth (fields-of (now (self .entry))) i ⌝ }
+        ensures value { λ r. ⌜ now r ≡ field-of (now (self .entry)) i ⌝ }
     {
         match self.fields.get(i) {
             Some(field) => field.as_slice(),
@@ -142,7 +141,7 @@ impl Line {
 
     // The name that stands in a column.
     pub(crate) fn name(&self, column: Column, i: usize) -> Result<&str, Failure>
-        ensures cases { λ r. ⌜ NameIn (now (self .entry) .number) (nth (fields-of (now (self .entry))) i) column r ⌝ }
+        ensures cases { λ r. ⌜ NameIn (now (self .entry) .number) (field-of (now (self .entry)) i) column r ⌝ }
     {
         let field = self.field(i);
         if field.is_empty() {
@@ -161,7 +160,7 @@ impl Line {
         column: Column,
         i: usize,
     ) -> Result<Option<u64>, Failure>
-        ensures cases { λ r. ⌜ NumberIn (now (self .entry) .number) (nth (fields-of (now (self .entry))) i) column r ⌝ }
+        ensures cases { λ r. ⌜ NumberIn (now (self .entry) .number) (field-of (now (self .entry)) i) column r ⌝ }
     {
         let field = self.field(i);
         if field.is_empty() && column.may_be_empty() {
