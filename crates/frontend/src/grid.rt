@@ -1,4 +1,6 @@
 // Rows of cells, set in columns.
+ghost use lib.ListN.{replicate};
+ghost use Rattle.std.specs.Written.{Prints};
 use std::alloc::AllocError;
 use std::alloc::Global;
 use std::fmt;
@@ -40,7 +42,10 @@ impl Grid {
     }
 }
 
-fn pad<W: fmt::Write>(f: &mut fmt::Formatter<W>, n: usize) -> fmt::Result {
+// Writes so many spaces.
+fn pad<W: fmt::Write>(f: &mut fmt::Formatter<W>, n: usize) -> fmt::Result
+    ensures prints { λ r. ⌜ Prints took (now (f .entry)) r (replicate n 32) (now (f .exit)) ⌝ }
+{
     for _i in 0..n {
         f.write_char(' ')?;
     }

@@ -1,4 +1,8 @@
 // The words that the program is given.
+ghost use mathlib.Core.Path.{_≡_};
+ghost use Rattle.std.specs.Vec.{made};
+ghost use Rattle.std.specs.declared.result.Result.the-variants.{Ok};
+ghost use Rattle.frontend.specs.Words.{Asks, format-word};
 use ledger::shown::Count;
 use ledger::shown::CountDisplay;
 use std::alloc::AllocError;
@@ -82,7 +86,10 @@ pub impl From<AllocError> for BadWords as BadWordsFromAlloc {
     }
 }
 
-fn format_named(heap: Global, word: &str) -> Result<Format, BadWords> {
+fn format_named(heap: Global, word: &str) -> Result<Format, BadWords>
+    ensures made { λ r. ⌜ made r (λ f. now (word .entry) ≡ format-word f) ⌝ }
+    ensures succeeds { λ r. ⌜ ((f : Format) → now (word .entry) ≡ format-word f → r ≡ Ok f) ⌝ }
+{
     match word {
         "text" => Ok(Format::Text),
         "tsv" => Ok(Format::Tsv),
@@ -116,7 +123,9 @@ impl<'a> Files<'a> {
     }
 }
 
-fn run_request<'a>(format: Format, files: Files<'a>) -> Result<Request<'a>, BadWords> {
+fn run_request<'a>(format: Format, files: Files<'a>) -> Result<Request<'a>, BadWords>
+    ensures { λ r. ⌜ Asks format (files .entry) r ⌝ }
+{
     if files.count != 2 {
         return Err(BadWords::Files(files.count));
     }

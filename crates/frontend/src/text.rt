@@ -1,4 +1,11 @@
 // The books as text for people.
+ghost use mathlib.Core.Path.{_≡_};
+ghost use mathlib.Core.List.{[], _∷_, _++_, map};
+ghost use Rattle.std.specs.Of.String.{string-bytes};
+ghost use Rattle.std.specs.Of.Vec.{vec-items};
+ghost use Rattle.std.specs.Vec.{made};
+ghost use Rattle.reading.specs.Named.{names-of};
+ghost use Rattle.frontend.specs.Cells.{billed-text, left-text, listed, rateless-texts, spot-text, to-stop, why-text};
 use crate::grid::Align;
 use crate::grid::Grid;
 use crate::grid::GridDisplay;
@@ -45,14 +52,18 @@ fn heading(heap: Global) -> Result<Vec<String>, AllocError> {
     Ok(row)
 }
 
-fn billed(heap: Global, total: Option<u64>) -> Result<String, AllocError> {
+fn billed(heap: Global, total: Option<u64>) -> Result<String, AllocError>
+    ensures made { λ r. ⌜ made r (λ t. string-bytes t ≡ billed-text total) ⌝ }
+{
     match total {
         Some(cents) => Money(cents).to_string(heap),
         None => String::from_str(heap, "no total"),
     }
 }
 
-fn left(heap: Global, standing: Standing) -> Result<String, AllocError> {
+fn left(heap: Global, standing: Standing) -> Result<String, AllocError>
+    ensures made { λ r. ⌜ made r (λ t. string-bytes t ≡ left-text standing) ⌝ }
+{
     match standing {
         Standing::Left(cents) => Money(cents).to_string(heap),
         Standing::RanOut(_) => String::from_str(heap, "none"),
@@ -60,7 +71,9 @@ fn left(heap: Global, standing: Standing) -> Result<String, AllocError> {
     }
 }
 
-fn spot(heap: Global, spot: Option<Spot<'_>>) -> Result<String, AllocError> {
+fn spot(heap: Global, spot: Option<Spot<'_>>) -> Result<String, AllocError>
+    ensures made { λ r. ⌜ made r (λ t. string-bytes t ≡ spot-text (spot .entry)) ⌝ }
+{
     match spot {
         Some(spot) => spot.to_string(heap),
         None => String::from_str(heap, "-"),
@@ -105,7 +118,9 @@ fn member_grid(heap: Global, books: &Books) -> Result<Grid, AllocError> {
 }
 
 // Why there is no total: a record without a rate, or a sum that no amount holds.
-fn no_total(heap: Global, first: Option<Spot<'_>>) -> Result<String, AllocError> {
+fn no_total(heap: Global, first: Option<Spot<'_>>) -> Result<String, AllocError>
+    ensures made { λ r. ⌜ made r (λ t. string-bytes t ≡ why-text (first .entry)) ⌝ }
+{
     match first {
         Some(spot) => spot.to_string(heap),
         None => String::from_str(heap, "a sum above 18446744073709551615 cents"),
@@ -128,7 +143,9 @@ fn log_line(heap: Global, books: &Books) -> Result<String, AllocError> {
 }
 
 // A line that lists texts after a title.
-fn list_line(heap: Global, title: &str, texts: &[String]) -> Result<String, AllocError> {
+fn list_line(heap: Global, title: &str, texts: &[String]) -> Result<String, AllocError>
+    ensures made { λ r. ⌜ made r (λ t. string-bytes t ≡ now (title .entry) ++ (listed (map string-bytes (now (texts .entry))) ++ (10 ∷ []))) ⌝ }
+{
     let mut line = String::from_str(heap, title)?;
     if texts.is_empty() {
         line.push_str(" none")?;
@@ -141,7 +158,9 @@ fn list_line(heap: Global, title: &str, texts: &[String]) -> Result<String, Allo
     Ok(line)
 }
 
-fn tokens_to_stop(heap: Global, books: &Books) -> Result<Vec<String>, AllocError> {
+fn tokens_to_stop(heap: Global, books: &Books) -> Result<Vec<String>, AllocError>
+    ensures made { λ r. ⌜ made r (λ t. map string-bytes (vec-items t) ≡ to-stop (names-of (now (books .entry) .credits .members)) (vec-items (now (books .entry) .statements))) ⌝ }
+{
     let mut texts = Vec::new(heap);
     for (name, said) in books
         .credits
@@ -171,7 +190,9 @@ fn without_total(heap: Global, books: &Books) -> Result<Vec<String>, AllocError>
     Ok(texts)
 }
 
-fn without_rate(heap: Global, books: &Books) -> Result<Vec<String>, AllocError> {
+fn without_rate(heap: Global, books: &Books) -> Result<Vec<String>, AllocError>
+    ensures made { λ r. ⌜ made r (λ t. map string-bytes (vec-items t) ≡ rateless-texts (names-of (now (books .entry) .log .machines)) (vec-items (now (books .entry) .rateless))) ⌝ }
+{
     let mut texts = Vec::new(heap);
     for (name, n) in books.log.machines.list().iter().zip(books.rateless.iter()) {
         if *n > 0 {

@@ -1,5 +1,15 @@
 // The books as tab-separated values for machines: a line for each member, one for the whole log, one
 // for each token to stop and one for each machine without a rate. Amounts are whole cents.
+ghost use denote.Ref.{now};
+ghost use mathlib.Core.Path.{_≡_};
+ghost use mathlib.Core.List.{_++_};
+ghost use Rattle.std.specs.Of.String.{string-bytes};
+ghost use Rattle.std.specs.Of.Vec.{vec-items};
+ghost use Rattle.std.specs.Vec.{made};
+ghost use Rattle.std.specs.Written.{Prints};
+ghost use Rattle.std.specs.declared.option.Option.the-variants.{Some};
+ghost use Rattle.reading.specs.Named.{names-of};
+ghost use Rattle.frontend.specs.Lines.{Bare, kind-word, left-cents, line, number-field, rateless-lines, spot-fields, stop-lines};
 use ledger::accounts::Account;
 use ledger::accounts::Statement;
 use ledger::books::Books;
@@ -24,6 +34,8 @@ enum Kind {
 }
 
 impl fmt::Display for Kind as KindDisplay {
+    ghost shown = { λ k. Some (kind-word k) };
+
     fn fmt<W: fmt::Write>(&self, f: &mut fmt::Formatter<W>) -> fmt::Result {
         f.write_str(
             match self {
@@ -41,7 +53,7 @@ impl fmt::Display for Kind as KindDisplay {
 struct Values<'a> {
     kind: Kind,
     name: &'a str,
-    records: Option<usize>,
+    records: Option<u64>,
     billed: Option<u64>,
     credit: Option<u64>,
     left: Option<u64>,
@@ -50,7 +62,9 @@ struct Values<'a> {
     last_missing: Option<Spot<'a>>,
 }
 
-fn empty<'a>(kind: Kind, name: &'a str) -> Values<'a> {
+fn empty<'a>(kind: Kind, name: &'a str) -> Values<'a>
+    ensures { λ r. ⌜ Bare kind (now (name .entry)) r ⌝ }
+{
     Values {
         kind,
         name,
@@ -64,17 +78,18 @@ fn empty<'a>(kind: Kind, name: &'a str) -> Values<'a> {
     }
 }
 
-fn write_number<N: fmt::Display + Drop, W: fmt::Write>(
-    n: Option<N>,
-    f: &mut fmt::Formatter<W>,
-) -> fmt::Result {
+fn write_number<W: fmt::Write>(n: Option<u64>, f: &mut fmt::Formatter<W>) -> fmt::Result
+    ensures prints { λ r. ⌜ Prints took (now (f .entry)) r (number-field n) (now (f .exit)) ⌝ }
+{
     match n {
         Some(n) => write!(f, "\t{n}"),
         None => f.write_str("\t"),
     }
 }
 
-fn write_spot<W: fmt::Write>(spot: Option<Spot<'_>>, f: &mut fmt::Formatter<W>) -> fmt::Result {
+fn write_spot<W: fmt::Write>(spot: Option<Spot<'_>>, f: &mut fmt::Formatter<W>) -> fmt::Result
+    ensures prints { λ r. ⌜ Prints took (now (f .entry)) r (spot-fields (spot .entry)) (now (f .exit)) ⌝ }
+{
     match spot {
         Some(spot) => {
             let number = spot.number;
@@ -87,6 +102,8 @@ fn write_spot<W: fmt::Write>(spot: Option<Spot<'_>>, f: &mut fmt::Formatter<W>) 
 }
 
 impl fmt::Display for Values<'_> as ValuesDisplay {
+    ghost shown = { λ v. Some (line v) };
+
     fn fmt<W: fmt::Write>(&self, f: &mut fmt::Formatter<W>) -> fmt::Result {
         let kind = self.kind;
         let name = Escaped(self.name);
@@ -102,7 +119,9 @@ impl fmt::Display for Values<'_> as ValuesDisplay {
     }
 }
 
-fn left(standing: Standing) -> Option<u64> {
+fn left(standing: Standing) -> Option<u64>
+    ensures { λ r. ⌜ r ≡ left-cents standing ⌝ }
+{
     match standing {
         Standing::Left(cents) => Some(cents),
         Standing::RanOut(_) | Standing::Unknown(_) => None,
@@ -120,7 +139,7 @@ fn member_line<'a>(
     let values = Values {
         kind: Kind::Member,
         name,
-        records: Some(said.records),
+        records: Some(said.records as u64),
         billed: said.total,
         credit: Some(credit),
         left: left(said.standing),
@@ -133,7 +152,7 @@ fn member_line<'a>(
 
 fn log_line(heap: Global, books: &Books) -> Result<String, AllocError> {
     let mut values = empty(Kind::Log, "");
-    values.records = Some(books.log.entries.len());
+    values.records = Some(books.log.entries.len() as u64);
     values.billed = books.whole.total;
     values.first_missing = books.spot(books.whole.first_missing);
     values.last_missing = books.spot(books.whole.last_missing);
@@ -161,7 +180,9 @@ fn push_members(heap: Global, books: &Books, page: &mut String) -> Result<(), Al
     Ok(())
 }
 
-fn push_stops(heap: Global, books: &Books, page: &mut String) -> Result<(), AllocError> {
+fn push_stops(heap: Global, books: &Books, page: &mut String) -> Result<(), AllocError>
+    ensures made { λ r. ⌜ made r (λ _. string-bytes (now (page .exit)) ≡ string-bytes (now (page .entry)) ++ stop-lines (names-of (now (books .entry) .credits .members)) (vec-items (now (books .entry) .statements))) ⌝ }
+{
     for (name, said) in books
         .credits
         .members
@@ -175,11 +196,13 @@ fn push_stops(heap: Global, books: &Books, page: &mut String) -> Result<(), Allo
     Ok(())
 }
 
-fn push_rateless(heap: Global, books: &Books, page: &mut String) -> Result<(), AllocError> {
+fn push_rateless(heap: Global, books: &Books, page: &mut String) -> Result<(), AllocError>
+    ensures made { λ r. ⌜ made r (λ _. string-bytes (now (page .exit)) ≡ string-bytes (now (page .entry)) ++ rateless-lines (names-of (now (books .entry) .log .machines)) (vec-items (now (books .entry) .rateless))) ⌝ }
+{
     for (name, n) in books.log.machines.list().iter().zip(books.rateless.iter()) {
         if *n > 0 {
             let mut values = empty(Kind::NoRate, name.as_str());
-            values.records = Some(*n);
+            values.records = Some(*n as u64);
             page.push_str(values.to_string(heap)?.as_str())?;
         }
     }

@@ -1,11 +1,9 @@
 // How amounts, names and places are written.
 ghost use denote.Ref.{now};
-ghost use mathlib.Core.List.{_++_};
-ghost use Prim.Native.Nat.{_/_, _%_};
-ghost use lib.Chars.{codes};
-ghost use Rattle.std.specs.Written.{decimal};
+ghost use lib.Utf8.{encode};
+ghost use Rattle.std.specs.Written.{Prints};
 ghost use Rattle.std.specs.declared.option.Option.the-variants.{Some};
-ghost use Rattle.ledger.specs.Written.{plural};
+ghost use Rattle.ledger.specs.Written.{counted, escaped, money, spotted};
 use std::fmt;
 
 // Cents, as whole units and two digits.
@@ -13,7 +11,7 @@ use std::fmt;
 pub struct Money(pub u64);
 
 pub impl fmt::Display for Money as MoneyDisplay {
-    ghost shown = { λ m. Some (decimal (m .0 / 100) ++ (codes "." ++ (decimal (m .0 % 100 / 10) ++ decimal (m .0 % 10)))) };
+    ghost shown = { λ m. Some (money (m .0)) };
 
     fn fmt<W: fmt::Write>(&self, f: &mut fmt::Formatter<W>) -> fmt::Result {
         let units = self.0 / 100;
@@ -28,7 +26,7 @@ pub impl fmt::Display for Money as MoneyDisplay {
 pub struct Count<'a>(pub usize, pub &'a str);
 
 pub impl fmt::Display for Count<'_> as CountDisplay {
-    ghost shown = { λ c. Some (decimal (c .0) ++ (codes " " ++ (now (c .1) ++ plural (c .0)))) };
+    ghost shown = { λ c. Some (counted (c .0) (now (c .1))) };
 
     fn fmt<W: fmt::Write>(&self, f: &mut fmt::Formatter<W>) -> fmt::Result {
         let n = self.0;
@@ -42,16 +40,25 @@ pub impl fmt::Display for Count<'_> as CountDisplay {
 #[derive(Clone, Copy)]
 pub struct Escaped<'a>(pub &'a str);
 
+// One character of such a text.
+fn write_escaped<W: fmt::Write>(c: char, f: &mut fmt::Formatter<W>) -> fmt::Result
+    ensures prints { λ r. ⌜ Prints took (now (f .entry)) r (escaped (encode c)) (now (f .exit)) ⌝ }
+{
+    match c {
+        '\t' => f.write_str("\\t"),
+        '\n' => f.write_str("\\n"),
+        '\r' => f.write_str("\\r"),
+        '\\' => f.write_str("\\\\"),
+        _ => f.write_char(c),
+    }
+}
+
 pub impl fmt::Display for Escaped<'_> as EscapedDisplay {
+    ghost shown = { λ e. Some (escaped (now (e .0))) };
+
     fn fmt<W: fmt::Write>(&self, f: &mut fmt::Formatter<W>) -> fmt::Result {
         for c in self.0.chars() {
-            match c {
-                '\t' => f.write_str("\\t")?,
-                '\n' => f.write_str("\\n")?,
-                '\r' => f.write_str("\\r")?,
-                '\\' => f.write_str("\\\\")?,
-                _ => f.write_char(c)?,
-            }
+            write_escaped(c, f)?;
         }
         Ok(())
     }
@@ -66,6 +73,8 @@ pub struct Spot<'a> {
 }
 
 pub impl fmt::Display for Spot<'_> as SpotDisplay {
+    ghost shown = { λ s. Some (spotted s) };
+
     fn fmt<W: fmt::Write>(&self, f: &mut fmt::Formatter<W>) -> fmt::Result {
         let number = self.number;
         let line = self.line;
