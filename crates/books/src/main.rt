@@ -1,4 +1,6 @@
 // Reads a usage log and the members' credits, bills every member, and prints how the credits stand.
+#![tactic(auto)]
+
 use frontend::run::answer;
 use std::{env, io};
 

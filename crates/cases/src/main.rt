@@ -1,5 +1,7 @@
 // Runs `books` on each line of commands.txt, a line being the words that it is given, and prints
 // the page or what is said in its place.
+#![tactic(auto)]
+
 use frontend::run::answer;
 use std::alloc::{AllocError, Global};
 use std::fs;

@@ -1,4 +1,6 @@
 // Reads comma-separated text (RFC 4180, with a bare line feed as a line end too) one row at a time.
+#![tactic(auto)]
+
 ghost use Rattle.std.specs.Prelude.{◌≡◌, ℕ, ◌+◌, ◌<◌, ◌≤◌, ◌⊎◌, length, take, Some, slice_index};
 ghost use Rattle.csv_rows.specs.declared.ReadError.TheVariants.{Memory};
 ghost use Rattle.csv_rows.specs.Grammar.{Special, count_of};

@@ -1,4 +1,6 @@
 // What the program `books` is told and what it shows: its words, its two files, and the page.
+#![tactic(auto)]
+
 mod grid;
 pub mod messages;
 pub mod options;

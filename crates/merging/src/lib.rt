@@ -1,3 +1,5 @@
 // Two producers as one.
+#![tactic(auto)]
+
 pub mod chain;
 pub mod interleave;

@@ -1,4 +1,6 @@
 // What every producer, cursor and folder promises, and the calls over any of them.
+#![tactic(auto)]
+
 pub mod board;
 pub mod calls;
 pub mod cursor;

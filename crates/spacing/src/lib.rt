@@ -1,2 +1,4 @@
 // A producer with separators.
+#![tactic(auto)]
+
 pub mod intersperse;

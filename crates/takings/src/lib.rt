@@ -1,4 +1,6 @@
 // Every list of calls on a cursor.
+#![tactic(auto)]
+
 ghost use Rattle.std.specs.Prelude.{◌≡◌, IfOk};
 ghost use Rattle.takings.specs.Takings.{call_of, Answered, Logged};
 

@@ -14,11 +14,11 @@ returns-in-10 c = record { cases = search (rules, feed) }
 pub returns-in-10-more : goal.returns-in-10-more
 returns-in-10-more c = record { cases = search (rules, return_feed) }
 
-pub returns-in-default-more·2 : goal.returns-in-default-more·2
-returns-in-default-more·2 c = record { cases = search (rules, lone) }
+pub returns-in_default-more : goal.returns-in_default-more
+returns-in_default-more c = record { cases = search (rules, lone) }
 
 pub returns-in-34 : goal.returns-in-34
 returns-in-34 c = record { cases = search (rules, quote) }
 
-pub returns-in-default : goal.returns-in-default
-returns-in-default c = record { cases = search (rules, other) }
+pub returns-in_default : goal.returns-in_default
+returns-in_default c = record { cases = search (rules, other) }

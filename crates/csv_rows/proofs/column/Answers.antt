@@ -14,12 +14,12 @@ cell items xs i v s same lt is e = (
 
 pub returns-then-eq : goal.returns-then-eq
 returns-then-eq c =
-    let at = cell _ _ _ _ _ c.deref-field-items.ensures.value c.fields-test.true c.field-item.is c.as-slice.ensures.value in
+    let at = cell _ _ _ _ _ c.deref-field-items.ensures.value c.fields-test.true c.field-item.is c.as_slice.ensures.value in
     record { cases = (at.0, at.1 ∙ (slice_eq-Decides Decides-eqb _ _ _ c.eq.ensures).0 c.if-eq.true, c.fields.invariant) }
 
 pub fields-preserved : goal.fields-preserved
 fields-preserved c =
-    let at = cell _ _ _ _ _ c.deref-field-items.ensures.value c.fields-test.true c.field-item.is c.as-slice.ensures.value in
+    let at = cell _ _ _ _ _ c.deref-field-items.ensures.value c.fields-test.true c.field-item.is c.as_slice.ensures.value in
     below_more _ _ c.fields.invariant (λ e. both_ways _ c.if-eq.false ((slice_eq-Decides Decides-eqb _ _ _ c.eq.ensures).1 (sym at.1 ∙ e)))
 
 pub returns : goal.returns

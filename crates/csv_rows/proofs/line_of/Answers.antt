@@ -12,4 +12,4 @@ cut xs at n e =
     (cases_lt at (length xs))
 
 pub returns : goal.returns
-returns c = record { value = ap (λ n. 1 + n) (c.line-feeds.ensures.value ∙ ap (count_of 10) (cut c.args.text.now c.args.at c.min.result c.min.ensures)) }
+returns c = record { value = ap (λ n. 1 + n) (c.line_feeds.ensures.value ∙ ap (count_of 10) (cut c.args.text.now c.args.at c.min.result c.min.ensures)) }

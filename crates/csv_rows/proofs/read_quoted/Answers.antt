@@ -28,7 +28,7 @@ bytes-preserved c =
     let to = c.if-b-eq34.end in
     let f = vec_items c.bytes.bytes in
     let g = vec_items c.push.new.self in
-    let pushed = c.in-ok-push.ensures.items in
+    let pushed = c.in_ok-push.ensures.items in
     elim c.if-b-eq34.branch [
       | then-b-eq34+else-end-text+else-text-end-ne34 w ↦ (
         omega (arith, w.end-is),
