@@ -1,6 +1,6 @@
 -- Comma-separated text as RFC 4180 has it, with a bare line feed as a line end too. Assumes nothing.
 use Rattle.std.specs.Prelude.{◌≡◌, ℕ, cond, ◌⊎◌, List, [], ◌∷◌, ◌++◌, count_by, ◌==◌, nat_eq}
-use Rattle.std.specs.List.{flat_map, AllByRecursion as All}
+use Rattle.std.specs.List.{flat_map, AllByRecursion}
 
 -- b is no plain byte: a comma, a quote, a carriage return or a line feed
 abbrev pub Special : ℕ → Type 0
@@ -8,7 +8,7 @@ Special b = (b ≡ 44) ⊎ ((b ≡ 34) ⊎ ((b ≡ 13) ⊎ (b ≡ 10)))
 
 -- each byte of f is plain
 abbrev pub Plain : List ℕ → Type 0
-Plain f = All (λ b. Special b → ⊥) f
+Plain f = AllByRecursion (λ b. Special b → ⊥) f
 
 -- a byte as it is written between quotes: a quote twice, any other once
 abbrev pub twice : ℕ → List ℕ

@@ -1,7 +1,7 @@
 -- Numbers as they are written in decimal. Assumes nothing.
 use Rattle.std.specs.Prelude.{◌≡◌, ℕ, ◌-◌, ◌<◌, ◌≤◌, List, map, length}
 use Rattle.std.specs.Int.Digits.{number_from_digits}
-use Rattle.std.specs.List.{AllByRecursion as All}
+use Rattle.std.specs.List.{AllByRecursion}
 
 -- b is one of the bytes 0 to 9
 abbrev pub Digit : ℕ → Type 0
@@ -14,5 +14,5 @@ decimal bs = number_from_digits 10 (map (λ b. b - 48) bs)
 -- field is digits, at least one, and they write n
 pub record Writes (field : List ℕ) (n : ℕ) : Type 0 where
   pub some : 0 < length field
-  pub digits : All Digit field
+  pub digits : AllByRecursion Digit field
   pub value : n ≡ decimal field

@@ -8,7 +8,7 @@ pub loop-i-preserved : goal.loop-i-preserved
 unfolding encode
 loop-i-preserved g c = λ p.
     let before = c.loop-i.invariant p in
-    let space = c.write-char.ensures.writes before.plain (ap is_ok c.in-ok-write-char.was) in
+    let space = c.write_char.ensures.writes before.plain (ap is_ok c.in_ok-write_char.was) in
     has_written_of_eq g.W.Write.write_str_gives _ _ _ _ (replicate_more c.loop-i.-i 32) (has_written_append g.W.Write.write_str_gives _ _ _ _ _ before space)
 
 pub returns : goal.returns

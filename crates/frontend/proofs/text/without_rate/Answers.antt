@@ -12,13 +12,13 @@ loop-name-preserved c =
     let turn = Zip-more c.loop-name.name-iterator c.next.new.self c.next.result (c.in-Some.name, c.in-Some.n) c.in-Some.is c.next.ensures.steps in
     gives_more string_bytes rateless_text _ _ c.in-Some.name.now c.in-Some.n.now _ _ _ _ turn (left_out _ _ _ (le-ltb 0 _ c.if-n-gt0.false)) c.loop-name.invariant
 
-pub loop-name-preserved-in-ok-push : goal.loop-name-preserved-in-ok-push
-loop-name-preserved-in-ok-push c =
+pub loop-name-preserved-in_ok-push : goal.loop-name-preserved-in_ok-push
+loop-name-preserved-in_ok-push c =
     let turn = Zip-more c.loop-name.name-iterator c.next.new.self c.next.result (c.in-Some.name, c.in-Some.n) c.in-Some.is c.next.ensures.steps in
     let old = vec_items c.loop-name.texts in
     let new = vec_items c.push.new.self in
-    let text = c.in-ok-format.field-0 in
-    let more = one_more string_bytes old new text _ (pushed {was = old} {xs = old} (text ∷ []) refl c.in-ok-push.was c.push.ensures.items) (c.in-ok-format.ensures.ok ∙ ap (λ l. escaped l ++ (codes " (" ++ (counted c.in-Some.n.now (codes "record") ++ codes ")"))) c.as-str.ensures.value) in
+    let text = c.in_ok-format.field-0 in
+    let more = one_more string_bytes old new text _ (pushed {was = old} {xs = old} (text ∷ []) refl c.in_ok-push.was c.push.ensures.items) (c.in_ok-format.ensures.ok ∙ ap (λ l. escaped l ++ (codes " (" ++ (counted c.in-Some.n.now (codes "record") ++ codes ")"))) c.as_str.ensures.value) in
     gives_more string_bytes rateless_text (map string_bytes old) (map string_bytes new) c.in-Some.name.now c.in-Some.n.now _ _ _ _ turn (taken_in (map string_bytes old) (map string_bytes new) _ _ (lt-ltb 0 _ c.if-n-gt0.true) more) c.loop-name.invariant
 
 pub returns : goal.returns

@@ -17,9 +17,9 @@ pub loop-name-preserved-then-n-gt0 : goal.loop-name-preserved-then-n-gt0
 loop-name-preserved-then-n-gt0 c =
     let turn = Zip-more c.loop-name.name-iterator c.next.new.self c.next.result (c.in-Some.name, c.in-Some.n) c.in-Some.is c.next.ensures.steps in
     let old = string_bytes c.loop-name.page in
-    let new = string_bytes c.push-str.new.self in
-    let written : c.as-str-then-n-gt0.result.now ≡ short_line NoRate (string_bytes c.in-Some.name.now) (Some c.in-Some.n.now) = c.as-str-then-n-gt0.ensures.value ∙ c.in-ok-to-string.ensures.ok ∙ short_is c.empty-values.result (Some c.in-Some.n.now) c.empty-values.ensures c.as-str.ensures.value refl in
-    let more = pushed {was = old} {xs = old} _ refl c.in-ok-push-str.was c.push-str.ensures.bytes ∙ ap (λ l. old ++ l) written in
+    let new = string_bytes c.push_str.new.self in
+    let written : c.as_str-then-n-gt0.result.now ≡ short_line NoRate (string_bytes c.in-Some.name.now) (Some c.in-Some.n.now) = c.as_str-then-n-gt0.ensures.value ∙ c.in_ok-to_string.ensures.ok ∙ short_is c.empty-values.result (Some c.in-Some.n.now) c.empty-values.ensures c.as_str.ensures.value refl in
+    let more = pushed {was = old} {xs = old} _ refl c.in_ok-push_str.was c.push_str.ensures.bytes ∙ ap (λ l. old ++ l) written in
     gives_more string_bytes rateless_line old new c.in-Some.name.now c.in-Some.n.now _ _ _ _ turn (taken_in old new _ _ (lt-ltb 0 _ c.if-n-gt0.true) more) c.loop-name.invariant
 
 pub returns : goal.returns

@@ -6,9 +6,9 @@ use Rattle.reading.proofs.log.read_log.Goals as goal
 pub lines-preserved : goal.lines-preserved
 lines-preserved c =
     let inv = c.lines.invariant in
-    let step = rw c.in-Some.is at c.in-ok-line.ensures.cases in
-    let read = c.in-ok-entry.ensures.cases (cells c.in-ok-header.header) c.in-ok-at.ensures.cases in (
-      c.in-ok-line.ensures.same ∙ inv.0,
+    let step = rw c.in-Some.is at c.in_ok-line.ensures.cases in
+    let read = c.in_ok-entry.ensures.cases (cells c.in_ok-header.header) c.in_ok-at.ensures.cases in (
+      c.in_ok-line.ensures.same ∙ inv.0,
       step.placed,
-      λ sound. one_entry (inv.2 sound) step (read sound (inv.2 sound).machines) c.in-ok-push.ensures.items,
+      λ sound. one_entry (inv.2 sound) step (read sound (inv.2 sound).machines) c.in_ok-push.ensures.items,
     )

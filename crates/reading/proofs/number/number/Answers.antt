@@ -5,20 +5,20 @@ use Rattle.reading.specs.Numbers.{Digit, decimal}
 use Rattle.reading.proofs.Decimals.{no_digit, too_large, decimal_more}
 use Rattle.reading.proofs.number.number.Goals as goal
 
-pub returns-in-default : goal.returns-in-default
-returns-in-default c = record { cases = no_digit c.args.field.now c.args.most c.bytes.b-index c.bytes.n c.bytes-test.true c.bytes.invariant.0 (λ d. search rules) }
+pub returns-in_default : goal.returns-in_default
+returns-in_default c = record { cases = no_digit c.args.field.now c.args.most c.bytes.b-index c.bytes.n c.bytes-test.true c.bytes.invariant.0 (λ d. search rules) }
 
-pub returns-in-default·2 : goal.returns-in-default·2
-returns-in-default·2 c = record { cases = no_digit c.args.field.now c.args.most c.bytes.b-index c.bytes.n c.bytes-test.true c.bytes.invariant.0 (λ d. search rules) }
+pub returns-in_default-2 : goal.returns-in_default-2
+returns-in_default-2 c = record { cases = no_digit c.args.field.now c.args.most c.bytes.b-index c.bytes.n c.bytes-test.true c.bytes.invariant.0 (λ d. search rules) }
 
-pub returns-in-err-checked-mul : goal.returns-in-err-checked-mul
-returns-in-err-checked-mul c = record {
-  cases = rw c.from-residual.ensures (too_large c.args.field.now c.args.most c.bytes.b-index c.bytes.n c.bytes-test.true c.bytes.invariant.0 (search rules));
+pub returns-in_err-checked_mul : goal.returns-in_err-checked_mul
+returns-in_err-checked_mul c = record {
+  cases = rw c.from_residual.ensures (too_large c.args.field.now c.args.most c.bytes.b-index c.bytes.n c.bytes-test.true c.bytes.invariant.0 (search rules));
 }
 
-pub returns-in-err-n : goal.returns-in-err-n
-returns-in-err-n c = record {
-  cases = rw c.from-residual-in-err-n.ensures (too_large c.args.field.now c.args.most c.bytes.b-index c.bytes.n c.bytes-test.true c.bytes.invariant.0 (search rules));
+pub returns-in_err-n : goal.returns-in_err-n
+returns-in_err-n c = record {
+  cases = rw c.from_residual-in_err-n.ensures (too_large c.args.field.now c.args.most c.bytes.b-index c.bytes.n c.bytes-test.true c.bytes.invariant.0 (search rules));
 }
 
 pub returns-then-n-most : goal.returns-then-n-most

@@ -1,7 +1,7 @@
 use Rattle.std.proofs.Common.{◌≡◌, ◌≤◌, take}
-use Rattle.std.specs.List.{AllByRecursion as All}
+use Rattle.std.specs.List.{AllByRecursion}
 use Rattle.reading.specs.Numbers.{Digit, decimal}
 use Rattle.reading.proofs.number.number.Given as goal
 
 abbrev pub invariant-bytes : goal.invariant-bytes
-invariant-bytes l = (l.n ≡ decimal (take l.b-index l.field)) × (l.n ≤ l.most) × All Digit (take l.b-index l.field)
+invariant-bytes l = (l.n ≡ decimal (take l.b-index l.field)) × (l.n ≤ l.most) × AllByRecursion Digit (take l.b-index l.field)

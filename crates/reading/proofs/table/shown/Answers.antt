@@ -6,7 +6,7 @@ pub returns : goal.returns
 returns c = record {
   made =
       subst
-      (λ bs. IfOk c.from-utf8-lossy.result (λ s. IsUtf8 bs → string_bytes s ≡ bs))
+      (λ bs. IfOk c.from_utf8_lossy.result (λ s. IsUtf8 bs → string_bytes s ≡ bs))
       (take_min c.args.field.now 60 c.min-end.result c.min-end.ensures)
-      c.from-utf8-lossy.ensures.ok;
+      c.from_utf8_lossy.ensures.ok;
 }

@@ -12,7 +12,7 @@ loop-c-preserved g c =
       encodes_more c.loop-c.yielded c.in-Some.c _ left step c.loop-c.invariant.0,
       λ p.
           let before = c.loop-c.invariant.1 p in
-          let more = c.write-escaped.ensures.prints before.plain (ap is_ok c.in-ok-write-escaped.was) in
+          let more = c.write_escaped.ensures.prints before.plain (ap is_ok c.in_ok-write_escaped.was) in
           has_written_of_eq g.W.Write.write_str_gives _ _ _ _ (sym (escaped_more c.loop-c.yielded c.in-Some.c)) (has_written_append g.W.Write.write_str_gives _ _ _ _ _ before more),
     )
 
