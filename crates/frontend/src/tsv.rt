@@ -68,7 +68,7 @@ fn empty<'a>(kind: Kind, name: &'a str) -> Values<'a>
 }
 
 fn write_number<W: fmt::Write>(n: Option<u64>, f: &mut fmt::Formatter<W>) -> fmt::Result
-    ensures prints { WritesOnOk write_str_gives f.old result (number_field n) f.new }
+    ensures prints { WritesOnOk W.write_str_gives f.old result (number_field n) f.new }
 {
     match n {
         Some(n) => write!(f, "\t{n}"),
@@ -77,7 +77,7 @@ fn write_number<W: fmt::Write>(n: Option<u64>, f: &mut fmt::Formatter<W>) -> fmt
 }
 
 fn write_spot<W: fmt::Write>(spot: Option<Spot<'_>>, f: &mut fmt::Formatter<W>) -> fmt::Result
-    ensures prints { WritesOnOk write_str_gives f.old result (spot_fields spot.entry) f.new }
+    ensures prints { WritesOnOk W.write_str_gives f.old result (spot_fields spot.entry) f.new }
 {
     match spot {
         Some(spot) => {

@@ -1,5 +1,5 @@
 // How amounts, names and places are written.
-ghost use Rattle.std.proofs.Math.Utf8.{encode};
+ghost use Rattle.std.specs.Char.{encode_utf8};
 ghost use Rattle.std.specs.Fmt.{WritesOnOk};
 ghost use Rattle.std.specs.Prelude.{Some};
 ghost use Rattle.ledger.specs.Written.{counted, escaped, money, spotted};
@@ -42,7 +42,7 @@ pub struct Escaped<'a>(pub &'a str);
 
 // One character of such a text.
 fn write_escaped<W: fmt::Write>(c: char, f: &mut fmt::Formatter<W>) -> fmt::Result
-    ensures prints { WritesOnOk write_str_gives f.old result (escaped (encode c)) f.new }
+    ensures prints { WritesOnOk W.write_str_gives f.old result (escaped (encode_utf8 c)) f.new }
 {
     match c {
         '\t' => f.write_str("\\t"),
