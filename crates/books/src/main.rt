@@ -2,6 +2,7 @@
 #![tactic(auto)]
 
 use frontend::run::answer;
+use std::process::ExitCode;
 use std::{env, io};
 
 // That there is no page; the reason is on standard error.
@@ -14,11 +15,11 @@ impl From<io::Error> for Stopped {
     }
 }
 
-fn main(rt: HostRuntime) -> Result<(), Stopped> {
-    let Ok(words) = env::args(&rt)?.skip(1).collect::<Vec<String>>(rt.alloc()) else {
+fn run(rt: &HostRuntime) -> Result<(), Stopped> {
+    let Ok(words) = env::args(rt)?.skip(1).collect::<Vec<String>>(rt.alloc()) else {
         return Err(Stopped);
     };
-    match answer(&rt, words.as_slice()) {
+    match answer(rt, words.as_slice()) {
         Ok(page) => rt.print(page)?,
         Err(message) => {
             eprintln!(rt; "books: {message}")?;
@@ -26,4 +27,11 @@ fn main(rt: HostRuntime) -> Result<(), Stopped> {
         }
     }
     Ok(())
+}
+
+fn main(rt: HostRuntime) -> ExitCode {
+    match run(&rt) {
+        Ok(()) => ExitCode::SUCCESS,
+        Err(Stopped) => ExitCode::FAILURE,
+    }
 }

@@ -44,7 +44,7 @@ impl Grid {
 
 // Writes so many spaces.
 fn pad<W: fmt::Write>(f: &mut fmt::Formatter<W>, n: usize) -> fmt::Result
-    ensures prints { WritesOnOk write_str_gives f.old result (replicate n 32) f.new }
+    ensures prints { WritesOnOk W.write_str_gives f.old result (replicate n 32) f.new }
 {
     for _i in 0..n {
         f.write_char(' ')?;

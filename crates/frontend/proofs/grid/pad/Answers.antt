@@ -9,9 +9,9 @@ unfolding encode
 loop-i-preserved g c = λ p.
     let before = c.loop-i.invariant p in
     let space = c.write_char.ensures.writes before.plain (ap is_ok c.in_ok-write_char.was) in
-    has_written_of_eq g.W.Write.write_str_gives _ _ _ _ (replicate_more c.loop-i.-i 32) (has_written_append g.W.Write.write_str_gives _ _ _ _ _ before space)
+    has_written_of_eq g.W.Write.write_str_gives _ _ _ _ (replicate_more c.loop-i._i 32) (has_written_append g.W.Write.write_str_gives _ _ _ _ _ before space)
 
 pub returns : goal.returns
 returns g c =
-    let all : c.loop-i.-i ≡ c.args.n = omega arith in
+    let all : c.loop-i._i ≡ c.args.n = omega arith in
     record { prints = λ p _. has_written_of_eq g.W.Write.write_str_gives _ _ _ _ (ap (λ k. replicate k 32) all) (c.loop-i.invariant p) }

@@ -4,7 +4,7 @@ use Rattle.std.proofs.lemmas.Slice.{pushed}
 use Rattle.std.proofs.lemmas.Bool.{eqb-true, eqb-false}
 use Rattle.frontend.proofs.Lists.{line_more, upto_none, upto_start, upto_all}
 use Rattle.frontend.proofs.text.list_line.Goals as goal
-use Rattle.frontend.proofs.text.list_line.Goals.{then-is-empty+in-ok-push-str, else-is-empty, then-i-eq0, else-i-eq0}
+use Rattle.frontend.proofs.text.list_line.Goals.{then-is_empty+in_ok-push_str, else-is_empty, then-i-eq0, else-i-eq0}
 
 pub loop-i-init : goal.loop-i-init
 loop-i-init c =
@@ -12,11 +12,11 @@ loop-i-init c =
     let texts = map string_bytes c.args.texts.now in
     let made = c.in_ok-line.ensures.ok in
     elim c.if-is_empty.branch [
-      | then-is-empty+in-ok-push-str w ↦
+      | then-is_empty+in_ok-push_str w ↦
           ap string_bytes w.line-is
           ∙ pushed _ made w.in_ok-push_str.was w.push_str.ensures.bytes
           ∙ ap (λ l. title ++ l) (sym (upto_none texts (length-map _ string_bytes ∙ eqb-true _ _ (sym w.if-is_empty.ensures))))
-      | else-is-empty w ↦
+      | else-is_empty w ↦
           ap string_bytes w.line-is ∙ made
           ∙ sym (append-nil title)
           ∙ ap (λ l. title ++ l) (sym (upto_start texts (λ e. eqb-false _ _ (sym w.if-is_empty.ensures) (sym (length-map _ string_bytes) ∙ e))))
