@@ -1,5 +1,5 @@
 -- What a folder is once it was fed a list, and the board with it.
-use Rattle.std.specs.Prelude.{◌≡◌, ℕ, ◌+◌, ◌≤◌, Bool, true, false, List, [], ◌∷◌, ◌++◌, length, vec_len}
+use Rattle.std.specs.Prelude.{◌≡◌, ◌+◌, ◌≤◌, Bool, true, false, List, [], ◌∷◌, ◌++◌, length, vec_len}
 use Rattle.plumbing.specs.declared.board.Board.{Board}
 use Rattle.plumbing.specs.declared.folder.Folder.{Ghosts as Folding}
 use Rattle.plumbing.specs.Histories.{Alike, Keeps, Twin}

@@ -1,5 +1,5 @@
 -- Histories. A history is a list: what has passed by a consumer from the left, fed to it or skipped because it was full.
-use Rattle.std.specs.Prelude.{◌≡◌, List, [], ◌∷◌, ◌++◌}
+use Rattle.std.specs.Prelude.{◌≡◌, List, ◌++◌}
 
 -- whatever follows h, it is the same as h alone
 abbrev pub Over : {I : Type 0} → (List I → List I → Type 0) → List I → Type 0
