@@ -1,4 +1,4 @@
-use Rattle.std.proofs.Common.{◌≡◌, ℕ, ◌+◌, ◌-◌, take, drop, sym, subst, arith}
+use Rattle.std.proofs.Common.{◌≡◌, ℕ, ◌+◌, take, drop, sym, subst, arith}
 use Rattle.sources.specs.Ranges.{between}
 use Rattle.sources.proofs.Counting.{length_between, between_cut}
 use Rattle.sources.proofs.range.RangeSourceProducer.split_at.Goals as goal
