@@ -14,10 +14,10 @@ loop-call-preserved g c = λ valid.
     let h : k < length calls = c.loop-call-test.true in
     let inv = c.loop-call.invariant valid in
     let log = inv.0 in
-    let run = c.run-call-rest.ensures in
+    let run = c.run_call-rest.ensures in
     let answered = run.answered inv.1 in
-    let a = c.run-call-rest.result.1 in
-    let pushed = c.in-ok-push.ensures.items ∙ ap (λ l. l ++ (a ∷ [])) log.1 ∙ append_assoc _ log.0 (a ∷ []) in
+    let a = c.run_call-rest.result.1 in
+    let pushed = c.in_ok-push.ensures.items ∙ ap (λ l. l ++ (a ∷ [])) log.1 ∙ append_assoc _ log.0 (a ∷ []) in
     let life = life_more _ _ log.0 _ _ _ a log.2 run.kind answered.0 in
     ((log.0 ++ (a ∷ []), pushed, rw (take_more calls k Next h) life), answered.1)
 
