@@ -15,10 +15,10 @@ returns g c = λ sound some.
     let k = (n - 1) / size in
     let whole : k * size + (n - 1) % size ≡ n - 1 = div-add-mod' (n - 1) size in
     let below : (n - 1) % size < size = mod_below (n - 1) size pos in
-    let p = c.split-at-2.ensures valid (omega arith) in
+    let p = c.split_at-2.ensures valid (omega arith) in
     let m = k * size in
     record {
-      joined = chunked_last size pos k xs m refl (omega arith) (omega arith) ∙ ap (λ t. chunked size t ++ (drop m xs ∷ [])) (sym p.0) ∙ ap (λ t. chunked size (g.P.Producer.items c.split-at-2.result.0) ++ (t ∷ [])) (sym p.1);
+      joined = chunked_last size pos k xs m refl (omega arith) (omega arith) ∙ ap (λ t. chunked size t ++ (drop m xs ∷ [])) (sym p.0) ∙ ap (λ t. chunked size (g.P.Producer.items c.split_at-2.result.0) ++ (t ∷ [])) (sym p.1);
       some = omega (arith, ap length p.1 ∙ length-drop m xs);
       rest_valid = p.2;
       run_valid = p.3;

@@ -1,4 +1,4 @@
-use Rattle.std.proofs.Common.{ℕ, ◌-◌, map, sym, ap, ◌∙◌}
+use Rattle.std.proofs.Common.{ℕ, sym, ap, ◌∙◌}
 use lib.ListN.{length-map}
 use Rattle.grouping.specs.Runs.{chunked, run_count}
 use Rattle.grouping.proofs.Cutting.{length_chunked}
@@ -9,4 +9,4 @@ returns g c = λ valid.
     let s = c.args.self.now in
     let size = s.chunk_size in
     let xs = g.P.Producer.items s.inner in
-    c.count-runs.ensures valid.1 ∙ ap (λ (n : ℕ). run_count n size) (c.len.ensures valid.0) ∙ sym (length-map (chunked size xs) (g.M.ChunkMap.value s.map) ∙ length_chunked size valid.1 xs)
+    c.count_runs.ensures valid.1 ∙ ap (λ (n : ℕ). run_count n size) (c.len.ensures valid.0) ∙ sym (length-map (chunked size xs) (g.M.ChunkMap.value s.map) ∙ length_chunked size valid.1 xs)
