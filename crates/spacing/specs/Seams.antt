@@ -1,5 +1,5 @@
 -- How a cut of an interspersed list falls on its items and separators.
-use Rattle.std.specs.Prelude.{◌≡◌, ℕ, ◌+◌, ◌<◌, ◌≤◌, Bool, true, false, not, ◌⊎◌}
+use Rattle.std.specs.Prelude.{◌≡◌, ℕ, ◌<◌, ◌≤◌, Bool, false, not, ◌⊎◌}
 use Rattle.spacing.specs.Intersperse.{width}
 
 -- a separator at an end goes to one side, and the other has none

@@ -6,15 +6,15 @@ use Rattle.spacing.proofs.Interspersing.{length_interspersed, framed_bare}
 use Rattle.spacing.proofs.intersperse.intersperse.Goals as goal
 
 pub returns-then-len : goal.returns-then-len
-returns-then-len g c = over_granted _ _ c.in-ok-base.was (λ valid.
+returns-then-len g c = over_granted _ _ c.in_ok-base.was (λ valid.
     let s = c.args.item in
-    let xs = g.P.Producer.items c.in-ok-base.base in
+    let xs = g.P.Producer.items c.in_ok-base.base in
     let many : 2 ^ 64 ≤ length (interspersed s xs) = omega (arith, length_interspersed s xs, c.len.ensures valid) in
     outcome_refused _ _ (le-leb (2 ^ 64) (length (interspersed s xs)) many))
 
 pub returns : goal.returns
-returns g c = over_granted _ _ c.in-ok-base.was (λ valid.
+returns g c = over_granted _ _ c.in_ok-base.was (λ valid.
     let s = c.args.item in
-    let xs = g.P.Producer.items c.in-ok-base.base in
+    let xs = g.P.Producer.items c.in_ok-base.base in
     let few : length (interspersed s xs) < 2 ^ 64 = omega (arith, length_interspersed s xs, c.len.ensures valid) in
     outcome_granted _ _ (lt-leb (2 ^ 64) (length (interspersed s xs)) few) (refl, framed_bare s xs, omega (arith, length_interspersed s xs)))

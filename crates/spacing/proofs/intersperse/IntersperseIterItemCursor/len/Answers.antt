@@ -8,4 +8,4 @@ returns g c = λ valid.
     let xs = g.K.Cursor.remaining s.base in
     let n = length_framed s.item s.clone_first xs s.clone_last in
     let e = c.len.ensures valid.0 in
-    omega (arith, n, e, c.spaced-len.ensures (omega (arith, e, valid.1)))
+    omega (arith, n, e, c.spaced_len.ensures (omega (arith, e, valid.1)))
