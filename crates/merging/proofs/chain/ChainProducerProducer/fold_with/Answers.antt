@@ -6,9 +6,9 @@ pub returns-then-full : goal.returns-then-full
 returns-then-full g c = λ valid.
     let f = g.F.Folder in
     let laws = g.met.F.Folder in
-    let t = c.fold-with-folder.result in
-    fed_both f (c.fold-with-folder.ensures valid.0)
+    let t = c.fold_with-folder.result in
+    fed_both f (c.fold_with-folder.ensures valid.0)
     (fed_full f (midway_start f _ _ _) (laws.sames t) (laws.stretches t _) (c.if-full.ensures.over refl) (sym c.if-full.ensures.exact))
 
 pub returns : goal.returns
-returns g c = λ valid. fed_both g.F.Folder (c.fold-with-folder.ensures valid.0) (c.fold-with.ensures valid.1)
+returns g c = λ valid. fed_both g.F.Folder (c.fold_with-folder.ensures valid.0) (c.fold_with.ensures valid.1)

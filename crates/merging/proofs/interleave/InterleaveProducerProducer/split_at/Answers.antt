@@ -18,8 +18,8 @@ returns g c = λ valid within.
     let dealt : Dealt k (length xs) (length ys) f r.i r.j r.i_next =
     subst (λ (m : ℕ). Dealt k m (length ys) f r.i r.j r.i_next) ie
     (subst (λ (m : ℕ). Dealt k c.len.result m f r.i r.j r.i_next) je (c.deal-split.ensures (omega (arith, n, ie, je)))) in
-    let i = c.split-at-i-left.ensures valid.0 dealt.first in
-    let j = c.split-at-j-left.ensures valid.1 dealt.second in
+    let i = c.split_at-i_left.ensures valid.0 dealt.first in
+    let j = c.split_at-j_left.ensures valid.1 dealt.second in
     let cut = interleaved_cut k f xs ys r.i r.j r.i_next dealt in
     let il = ap length i.0 ∙ length-take-le r.i xs dealt.first in
     let jl = ap length j.0 ∙ length-take-le r.j ys dealt.second in
