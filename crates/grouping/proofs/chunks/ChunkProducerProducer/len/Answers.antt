@@ -1,5 +1,5 @@
 use Rattle.std.proofs.Common.{ℕ, sym, ap, ◌∙◌}
-use lib.ListN.{length-map}
+use Rattle.std.proofs.lemmas.List.{length-map}
 use Rattle.grouping.specs.Runs.{chunked, run_count}
 use Rattle.grouping.proofs.Cutting.{length_chunked}
 use Rattle.grouping.proofs.chunks.ChunkProducerProducer.len.Goals as goal

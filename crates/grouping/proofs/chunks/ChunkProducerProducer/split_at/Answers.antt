@@ -1,6 +1,5 @@
 use Rattle.std.proofs.Common.{map, ap, ◌∙◌, arith}
-use lib.ListN.{length-map}
-use Rattle.std.proofs.lemmas.List.{map-append}
+use Rattle.std.proofs.lemmas.List.{map-append, length-map}
 use Rattle.plumbing.proofs.Cuts.{halves}
 use Rattle.grouping.specs.Runs.{chunked}
 use Rattle.grouping.proofs.chunks.ChunkProducerProducer.split_at.Goals as goal
