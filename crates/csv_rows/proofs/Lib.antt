@@ -1,6 +1,4 @@
-mod Marks
 mod Cuts
-mod Follows
 mod Plains
 mod Quotes
 mod Rows

@@ -1,101 +1,62 @@
--- One more field of a row, by its place in the text. Assumes nothing.
-use Rattle.std.proofs.Common.{◌≡◌, ℕ, ◌+◌, ◌-◌, ◌<◌, ◌≤◌, List, [], ◌∷◌, ◌++◌, length, take, drop, Err, sym, refl, ap, ◌∙◌, subst, inl, inr, arith, length-append, length-drop}
-use Rattle.std.proofs.lemmas.List.Prefix.{front_rest}
-use Rattle.std.proofs.lemmas.List.{drop-drop, take_rest}
+-- Where a row and its offences stand in the text. Assumes nothing.
+use Rattle.std.proofs.Common.{◌≡◌, ℕ, ◌+◌, ◌-◌, ◌<◌, List, [], ◌∷◌, ◌++◌, length, take, drop, sym, ap, ◌∙◌, subst, inl, inr, append_assoc, take-append-drop, length-append, length-drop, arith}
+use Rattle.std.proofs.lemmas.List.Prefix.{end_rest}
 use Rattle.csv_rows.specs.declared.Fault.{Fault}
 use Rattle.csv_rows.specs.declared.Fault.TheVariants.{QuoteInField, LoneReturn, TextAfterQuote, OpenQuote}
-use Rattle.csv_rows.specs.declared.Follow.{Follow}
-use Rattle.csv_rows.specs.declared.Follow.TheVariants.{Comma, End, Wrong}
-use Rattle.csv_rows.specs.declared.ReadError.{ReadError}
-use Rattle.csv_rows.specs.declared.ReadError.TheVariants.{Memory, Malformed}
-use Rattle.csv_rows.specs.Grammar.{Ends, RowOf}
-use Rattle.csv_rows.specs.Parts.{First, FieldAt, Followed}
-use Rattle.csv_rows.specs.Reads.{Answer, Offence, NoRowAt}
-use Rattle.csv_rows.proofs.Rows.{Sofar, one_more, done, alone, stuck, no_more}
+use Rattle.csv_rows.specs.declared.Row.{Row}
+use Rattle.csv_rows.specs.Grammar.{Ends, RowOf, count_of}
+use Rattle.csv_rows.specs.Parts.{Stops, First, NoField}
+use Rattle.csv_rows.specs.Reads.{Offence, NoRowAt, RowAt, cells}
+use Rattle.csv_rows.proofs.Rows.{Sofar, done, alone, stuck, no_more}
 
-module _ (s : List ℕ) (i : ℕ) where
-  -- a slice from i on, as the checker reads it
-  here : (v : Follow) → Followed (take (length s - i) (drop i s)) v → Followed (drop i s) v
-  here v = subst (λ x. Followed x v) (take_rest s i)
+some : (fault : Fault) (s : List ℕ) → Offence fault s → 0 < length s
+some QuoteInField s o = omega (arith, ap length o.1)
+some LoneReturn s o = omega (arith, ap length o.1)
+some TextAfterQuote s o = omega (arith, ap length o.2)
+some OpenQuote s o = omega (arith, ap length o.1)
 
-  module _ (e rest : List ℕ) (d : drop i s ≡ e ++ rest) where
-    past : (width : ℕ) → length e ≡ width → rest ≡ drop (i + width) s
-    past width long = sym (front_rest (drop i s) e rest d) ∙ drop-drop (length e) i s ∙ ap (λ n. drop (i + n) s) long
+module _ (text : List ℕ) (at : ℕ) where
+  -- what is left is an end of the text, as long as what stands before it leaves it
+  left : (read rest : List ℕ) → drop at text ≡ read ++ rest → length text - at ≡ length read + length rest
+  left read rest e = sym (length-drop at text) ∙ ap length e ∙ length-append read rest
 
-    left : length s - i ≡ length e + length rest
-    left = sym (length-drop i s) ∙ ap length d ∙ length-append e rest
+  place : (read rest : List ℕ) → drop at text ≡ read ++ rest → drop (length text - length rest) text ≡ rest
+  place read rest e =
+      end_rest text rest (take at text ++ read) (sym (take-append-drop at text) ∙ ap (λ x. take at text ++ x) e ∙ sym (append_assoc (take at text) read rest))
 
-    -- only the end of the text ends a row with no byte
-    forward : (at : ℕ) → at < length s → at ≤ i → Ends e rest → at < i + length e
-    forward at lt le (inl p) = omega (arith, ap length p)
-    forward at lt le (inr (inl p)) = omega (arith, ap length p)
-    forward at lt le (inr (inr p)) = omega (arith, left, ap length p.0, ap length p.1)
+  refused : (fault : Fault) (read rest : List ℕ) → at < length text → drop at text ≡ read ++ rest → Offence fault rest → ((fs : List (List ℕ)) (end : List ℕ) → RowOf fs (drop at text) end → ⊥) → NoRowAt text at fault (length text - length rest)
+  refused fault read rest lt e o none = record {
+    inside = lt;
+    forward = omega (arith, left read rest e);
+    within = omega (arith, some fault rest o);
+    offence = subst (Offence fault) (sym (place read rest e)) o;
+    none = none;
+  }
 
-  some : (b : ℕ) (rest : List ℕ) → drop i s ≡ b ∷ rest → i < length s
-  some b rest d = omega (arith, left (b ∷ []) rest d)
+  -- only the end of the text ends a row with no byte
+  forward : (t e rest : List ℕ) → at < length text → drop at text ≡ t ++ (e ++ rest) → Ends e rest → at < length text - length rest
+  forward t e rest lt d (inl p) = omega (arith, left t (e ++ rest) d, length-append e rest, ap length p)
+  forward t e rest lt d (inr (inl p)) = omega (arith, left t (e ++ rest) d, length-append e rest, ap length p)
+  forward t e rest lt d (inr (inr p)) = omega (arith, ap length p.1)
 
-  offence_inside : (fault : Fault) → Offence fault (drop i s) → i < length s
-  offence_inside QuoteInField o = some 34 o.0 o.1
-  offence_inside LoneReturn o = some 13 o.0 o.1
-  offence_inside TextAfterQuote o = some o.0 o.1 o.2
-  offence_inside OpenQuote o = some 34 _ o.1
+module _ {text : List ℕ} {at : ℕ} {fs : List (List ℕ)} {rest : List ℕ} (lt : at < length text) (old : Sofar (drop at text) fs rest) where
+  pub no_field : Offence OpenQuote rest × NoField rest → NoRowAt text at OpenQuote (length text - length rest)
+  no_field told = refused text at OpenQuote old.read rest lt old.cut told.0 (no_more old told.1)
 
--- the fields gs have been read from at on, and the last of them ends at end
-pub record Turn (s : List ℕ) (at end : ℕ) (gs : List (List ℕ)) : Type 0 where
-  pub from : ℕ
-  pub before : List (List ℕ)
-  pub last : List ℕ
-  pub old : Sofar (drop at s) before (drop from s)
-  pub first : First last (drop from s) (drop end s)
-  pub grown : gs ≡ before ++ last ∷ []
-  pub forth : at ≤ end
-  pub within : end ≤ length s
+  module _ {f after : List ℕ} (first : First f rest after) where
+    pub no_end : (fault : Fault) → Offence fault after × (Stops after → ⊥) → NoRowAt text at fault (length text - length after)
+    no_end fault told =
+        refused text at fault (old.read ++ first.text) after lt (old.cut ∙ ap (λ x. old.read ++ x) first.cut ∙ sym (append_assoc old.read first.text after)) told.0 (stuck old after first told.1)
 
-module _ {s : List ℕ} {at end : ℕ} {gs : List (List ℕ)} (turn : Turn s at end gs) where
-  pub comma_next : Followed (take (length s - end) (drop end s)) Comma → (end + 1 ≤ length s) × Sofar (drop at s) gs (drop (end + 1) s)
-  comma_next told =
-      let next = here s end Comma told in
-      let on = past s end (44 ∷ []) next.0 next.1 1 refl in
-      let first = subst (First turn.last (drop turn.from s)) (next.1 ∙ ap (λ x. 44 ∷ x) on) turn.first in (
-        omega (arith, some s end 44 next.0 next.1),
-        subst (λ x. Sofar (drop at s) x (drop (end + 1) s)) (sym turn.grown) (one_more turn.old (drop (end + 1) s) first),
-      )
-
-  module _ (width : ℕ) (told : Followed (take (length s - end) (drop end s)) (End width)) where
-    pub row_within : (at < length s → at < end + width) × (end + width ≤ length s)
-    row_within =
-        let next = here s end (End width) told in (
-          λ lt. omega (arith, next.2, forward s end next.0 next.1 next.4 at lt turn.forth next.3),
-          omega (arith, turn.within, next.2, left s end next.0 next.1 next.4),
-        )
-
-    -- the row that ends here, and no other
-    abbrev Only : List (List ℕ) → List ℕ → Type 0
-    Only fs rest = RowOf fs (drop at s) rest × ((hs : List (List ℕ)) (other : List ℕ) → RowOf hs (drop at s) other → (hs ≡ fs) × (other ≡ rest))
-
-    pub row_ends : Only gs (drop (end + width) s)
-    row_ends =
-        let next = here s end (End width) told in
-        let on = past s end next.0 next.1 next.4 width next.2 in
-        let row : Only (turn.before ++ turn.last ∷ []) next.1 = (
-          done turn.old (drop end s) next.0 next.1 turn.first next.3 next.4,
-          alone turn.old (drop end s) next.0 next.1 turn.first next.3 next.4,
-        ) in
-        subst (λ x. Only x (drop (end + width) s)) (sym turn.grown) (subst (Only (turn.before ++ turn.last ∷ [])) on row)
-
-  pub no_row : (fault : Fault) → at < length s → Followed (take (length s - end) (drop end s)) (Wrong fault) → NoRowAt s at fault end
-  no_row fault lt told =
-      let next = here s end (Wrong fault) told in
-      record {
-        inside = lt;
-        forward = turn.forth;
-        within = offence_inside s end fault next.0;
-        offence = next.0;
-        none = stuck turn.old (drop end s) turn.first next.1;
-      }
-
--- where a field cannot be read, the row cannot
-pub row_refused : (s : List ℕ) (at from : ℕ) (fs : List (List ℕ)) → at < length s → at ≤ from → Sofar (drop at s) fs (drop from s) → (e : ReadError) → FieldAt s from (Err e) → Answer s at (Err e)
-row_refused s at from fs lt le old Memory h = tt
-row_refused s at from fs lt le old (Malformed fault place) h =
-    record { inside = lt; forward = omega (arith, h.0); within = h.1; offence = h.2; none = no_more old h.3 }
+    pub row_ends : (row : Row) (more : List ℕ) → (e : List ℕ) × Ends e more × (after ≡ e ++ more) → cells row ≡ fs ++ f ∷ [] → row.next ≡ length text - length more → row.lines ≡ count_of 10 (take (row.next - at) (drop at text)) → RowAt text at row
+    row_ends row more told fields next lines =
+        let all : RowOf (cells row) (drop at text) more = rw fields (done old after told.0 more first told.1 told.2) in
+        let ends : drop row.next text ≡ more = rw next (place text at (all.0 ++ all.1) more (all.4 ∙ sym (append_assoc all.0 all.1 more))) in
+        record {
+          inside = lt;
+          forward = rw next (forward text at all.0 all.1 more lt all.4 all.3);
+          within = omega arith;
+          fields = rw ends all;
+          only = rw (ends, fields) (alone old after told.0 more first told.1 told.2);
+          lines = lines;
+        }

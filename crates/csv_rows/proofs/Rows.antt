@@ -2,7 +2,6 @@
 use Rattle.std.proofs.Common.{◌≡◌, ℕ, cond, eqb, ◌⊎◌, List, [], ◌∷◌, ◌++◌, drop, sym, refl, ap, ◌∙◌, subst, inl, inr, append_assoc, arith}
 use Rattle.csv_rows.specs.Grammar.{Field, Ends, RowOf}
 use Rattle.csv_rows.specs.Parts.{Stops, First, NoField}
-use Rattle.csv_rows.proofs.Cuts.{heads, tails, nil_cons}
 
 -- what stands after the first field of a row, where the fields gs and then end are left: the row's end, or a comma and a row
 abbrev Then : List (List ℕ) → List ℕ → List ℕ → Type 0
@@ -46,9 +45,14 @@ opened (f ∷ g ∷ fs) s end r =
       follows = inr (past, (parts.1, r.1, parts.3, r.3, refl), refl);
     }
 
+ends_stops : (e rest : List ℕ) → Ends e rest → Stops (e ++ rest)
+ends_stops e rest (inl p) = rw p (inr (inl refl))
+ends_stops e rest (inr (inl p)) = rw p (inr (inr (refl, (rest, refl))))
+ends_stops e rest (inr (inr p)) = rw (p.0, p.1) tt
+
 then_stops : (gs : List (List ℕ)) (rest end : List ℕ) → Then gs rest end → Stops rest
-then_stops gs rest end (inl p) = inr (p.0, end, p.1, p.2)
-then_stops gs rest end (inr p) = inl (p.0, p.2)
+then_stops gs rest end (inl p) = rw p.2 (ends_stops p.0 end p.1)
+then_stops gs rest end (inr p) = rw p.2 (inl refl)
 
 -- nothing is a row that does not begin with a field
 no_field : (s : List ℕ) → NoField s → (fs : List (List ℕ)) (end : List ℕ) → RowOf fs s end → ⊥
@@ -69,10 +73,13 @@ module _ {f s rest : List ℕ} (first : First f s rest) where
   last_field : (e end : List ℕ) → Ends e end → rest ≡ e ++ end → RowOf (f ∷ []) s end
   last_field e end h d = (first.text, e, first.written, h, first.cut ∙ ap (λ x. first.text ++ x) d)
 
+heads : {b d : ℕ} {s t : List ℕ} → b ∷ s ≡ d ∷ t → b ≡ d
+heads e = cc
+
 no_comma : (e end more : List ℕ) → Ends e end → e ++ end ≡ 44 ∷ more → ⊥
 no_comma e end more (inl p) d = let z = heads (sym (ap (λ x. x ++ end) p) ∙ d) in omega arith
 no_comma e end more (inr (inl p)) d = let z = heads (sym (ap (λ x. x ++ end) p) ∙ d) in omega arith
-no_comma e end more (inr (inr p)) d = nil_cons (sym (ap (λ x. x ++ end) p.0 ∙ p.1) ∙ d)
+no_comma e end more (inr (inr p)) d = let z = sym (ap (λ x. x ++ end) p.0 ∙ p.1) ∙ d in cc
 
 module _ {f s more : List ℕ} (first : First f s (44 ∷ more)) where
   field_more : (gs : List (List ℕ)) (end : List ℕ) → RowOf gs more end → RowOf (f ∷ gs) s end
@@ -90,7 +97,7 @@ module _ {f s more : List ℕ} (first : First f s (44 ∷ more)) where
     where
       row : (gs : List (List ℕ)) → Then gs (44 ∷ more) end → RowOf gs more end
       row gs (inl p) = absurd (no_comma p.0 end more p.1 (sym p.2))
-      row gs (inr p) = subst (λ x. RowOf gs x end) (sym (tails p.2)) p.1
+      row gs (inr p) = subst (λ x. RowOf gs x end) (cc) p.1
 
 -- what is left of bytes that begin with a row's end
 abbrev past_end : List ℕ → List ℕ
@@ -104,12 +111,19 @@ past_end_is e end (inr (inr p)) = ap (λ x. past_end (x ++ end)) p.0 ∙ ap past
 
 -- the fields fs and their commas lead from s to rest, and no others do
 pub record Sofar (s : List ℕ) (fs : List (List ℕ)) (rest : List ℕ) : Type 0 where
+  pub read : List ℕ
+  pub cut : s ≡ read ++ rest
   pub builds : (gs : List (List ℕ)) (end : List ℕ) → RowOf gs rest end → RowOf (fs ++ gs) s end
   pub only : (hs : List (List ℕ)) (end : List ℕ) → RowOf hs s end → (gs : List (List ℕ)) × (hs ≡ fs ++ gs) × RowOf gs rest end
+
+pub none_yet : (s : List ℕ) → Sofar s [] s
+none_yet s = record { read = []; cut = refl; builds = λ gs end r. r; only = λ hs end r. (hs, refl, r) }
 
 module _ {s rest : List ℕ} {fs : List (List ℕ)} (old : Sofar s fs rest) {f : List ℕ} where
   pub one_more : (more : List ℕ) → First f rest (44 ∷ more) → Sofar s (fs ++ f ∷ []) more
   one_more more first = record {
+    read = old.read ++ (first.text ++ 44 ∷ []);
+    cut = old.cut ∙ ap (λ x. old.read ++ x) first.cut ∙ simp append_assoc;
     builds = λ gs end r. subst (λ x. RowOf x s end) (sym (append_assoc fs (f ∷ []) gs)) (old.builds (f ∷ gs) end (field_more first gs end r));
     only = λ hs end r.
         let o = old.only hs end r in

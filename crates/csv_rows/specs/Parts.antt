@@ -1,17 +1,22 @@
 -- What the inner functions answer. Assumes nothing.
-use Rattle.std.specs.Prelude.{◌≡◌, ℕ, ◌<◌, ◌≤◌, ◌⊎◌, List, ◌∷◌, ◌++◌, length, drop, Ok, Err, vec_items, Result}
+use Rattle.std.specs.Prelude.{◌≡◌, ℕ, ◌⊎◌, List, [], ◌∷◌, ◌++◌, Some, None, Ok, Err, vec_items, Option, Result, Bool, not, ◌==◌, ◌||◌}
+use Rattle.std.specs.declared.alloc.AllocError.{AllocError}
+use Rattle.csv_rows.specs.declared.Fault.{Fault}
+use Rattle.csv_rows.specs.declared.Fault.TheVariants.{OpenQuote}
 use Rattle.csv_rows.specs.declared.Follow.{Follow}
-use Rattle.csv_rows.specs.declared.Follow.TheVariants.{Comma, End, Wrong}
+use Rattle.csv_rows.specs.declared.Follow.TheVariants.{Comma, End}
 use Rattle.csv_rows.specs.declared.Piece.{Piece}
-use Rattle.csv_rows.specs.declared.ReadError.{ReadError}
-use Rattle.csv_rows.specs.declared.ReadError.TheVariants.{Memory, Malformed}
-use Rattle.csv_rows.specs.declared.Row.{Row}
 use Rattle.csv_rows.specs.Grammar.{Field, Ends}
-use Rattle.csv_rows.specs.Reads.{Answer, Offence, RowAt}
+use Rattle.csv_rows.specs.Reads.{Offence}
 
--- s is what may stand after a field: a comma and more, or a row's end and more
+-- the test of a plain byte
+abbrev pub is_plain : ℕ → Bool
+is_plain b = not ((b == 44) || (b == 34) || (b == 13) || (b == 10))
+
+-- s is what may stand after a field: nothing, or a comma, a line feed, or a carriage return and a line feed
 abbrev pub Stops : List ℕ → Type 0
-Stops s = ((rest : List ℕ) × (s ≡ 44 ∷ rest)) ⊎ ((e : List ℕ) × (rest : List ℕ) × Ends e rest × (s ≡ e ++ rest))
+Stops [] = Unit {0}
+Stops (b ∷ s) = (b ≡ 44) ⊎ ((b ≡ 10) ⊎ ((b ≡ 13) × ((more : List ℕ) × (s ≡ 10 ∷ more))))
 
 -- the bytes s have the field f at their front, and then rest; no other field there leaves what may stand after it
 pub record First (f s rest : List ℕ) : Type 0 where
@@ -24,19 +29,14 @@ pub record First (f s rest : List ℕ) : Type 0 where
 abbrev pub NoField : List ℕ → Type 0
 NoField s = (g u more : List ℕ) → Field g u → s ≡ u ++ more → Stops more → ⊥
 
--- what is answered for the field that begins at at
-abbrev pub FieldAt : List ℕ → ℕ → Result Piece ReadError → Type 0
-FieldAt text at (Ok piece) = (at ≤ piece.end) × (piece.end ≤ length text) × First (vec_items piece.bytes) (drop at text) (drop piece.end text)
-FieldAt text at (Err Memory) = Unit {0}
-FieldAt text at (Err (Malformed fault place)) = (at ≤ place) × (place < length text) × Offence fault (drop place text) × NoField (drop at text)
+-- what is answered for the field at the front of s
+abbrev pub FieldOf : List ℕ → Result (Option Piece) AllocError → Type 0
+FieldOf s (Ok (Some piece)) = First (vec_items piece.bytes) s piece.after.now
+FieldOf s (Ok None) = Offence OpenQuote s × NoField s
+FieldOf s (Err e) = Unit {0}
 
 -- what is answered for the bytes s after a field
-abbrev pub Followed : List ℕ → Follow → Type 0
-Followed s Comma = (rest : List ℕ) × (s ≡ 44 ∷ rest)
-Followed s (End width) = (e : List ℕ) × (rest : List ℕ) × (length e ≡ width) × Ends e rest × (s ≡ e ++ rest)
-Followed s (Wrong fault) = Offence fault s × (Stops s → ⊥)
-
--- what is answered for the row that begins at at, which is within the text
-abbrev pub RowFrom : List ℕ → ℕ → Result Row ReadError → Type 0
-RowFrom text at (Ok row) = RowAt text at row
-RowFrom text at (Err e) = Answer text at (Err e)
+abbrev pub Followed : List ℕ → Result Follow Fault → Type 0
+Followed s (Ok (Comma more)) = s ≡ 44 ∷ more.now
+Followed s (Ok (End more)) = (e : List ℕ) × Ends e more.now × (s ≡ e ++ more.now)
+Followed s (Err fault) = Offence fault s × (Stops s → ⊥)

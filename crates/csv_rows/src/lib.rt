@@ -1,11 +1,12 @@
 // Reads comma-separated text (RFC 4180, with a bare line feed as a line end too) one row at a time.
 #![tactic(auto)]
 
-ghost use Rattle.std.specs.Prelude.{◌≡◌, ℕ, ◌+◌, ◌<◌, ◌≤◌, ◌⊎◌, length, take, Some, slice_index};
+ghost use Rattle.std.specs.Prelude.{◌≡◌, ◌+◌, ◌≤◌, ◌⊎◌, ◌∷◌, length, take, Some};
+ghost use Rattle.std.specs.List.{prefix_len};
 ghost use Rattle.csv_rows.specs.declared.ReadError.TheVariants.{Memory};
-ghost use Rattle.csv_rows.specs.Grammar.{Special, count_of};
+ghost use Rattle.csv_rows.specs.Grammar.{count_of};
 ghost use Rattle.csv_rows.specs.Reads.{Answer, FirstOf, Marked, cells, words};
-ghost use Rattle.csv_rows.specs.Parts.{FieldAt, Followed, RowFrom};
+ghost use Rattle.csv_rows.specs.Parts.{FieldOf, Followed, is_plain};
 
 use std::alloc::{AllocError, AllocFailed, Global};
 use std::fmt;
@@ -71,120 +72,109 @@ pub fn read_row(heap: Global, text: &[u8], at: usize) -> Result<Option<Row>, Rea
     if at >= text.len() {
         return Ok(None);
     }
-    Ok(Some(read_fields(heap, text, at)?))
-}
-
-// The row that begins at `at`, which is within the text.
-fn read_fields(heap: Global, text: &[u8], at: usize) -> Result<Row, ReadError>
-    requires { at < length text.now }
-    ensures cases { RowFrom text.now at result }
-{
     let mut fields = Vec::new(heap);
-    let mut from = at;
+    let mut rest = &text[at..];
     'fields: loop {
-        let Piece { bytes, end } = read_field(heap, text, from)?;
+        let Some(Piece { bytes, after }) = read_field(heap, rest)? else {
+            return Err(ReadError::Malformed {
+                fault: Fault::OpenQuote,
+                at: text.len() - rest.len(),
+            });
+        };
         fields.push(bytes)?;
-        match after_field(&text[end..text.len()]) {
-            Follow::Comma => from = end + 1,
-            Follow::End(width) => {
-                let next = end + width;
+        let end = text.len() - after.len();
+        match after_field(after) {
+            Ok(Follow::Comma(more)) => rest = more,
+            Ok(Follow::End(more)) => {
+                let next = text.len() - more.len();
                 let lines = line_feeds(&text[at..next]);
-                return Ok(Row {
+                return Ok(Some(Row {
                     fields,
                     next,
                     lines,
-                });
+                }));
             }
-            Follow::Wrong(fault) => return Err(ReadError::Malformed { fault, at: end }),
+            Err(fault) => return Err(ReadError::Malformed { fault, at: end }),
         }
     }
 }
 
-// A field, and where it ends in the text.
+// A field at the front of a text, and what is left after it.
 #[derive(Drop)]
-struct Piece {
+struct Piece<'a> {
     bytes: Vec<u8>,
-    end: usize,
+    after: &'a [u8],
 }
 
-// The field that begins at `at`.
-fn read_field(heap: Global, text: &[u8], at: usize) -> Result<Piece, ReadError>
-    requires { at ≤ length text.now }
-    ensures cases { FieldAt text.now at result }
+// The field at the front of `text`, or `None` where its quote is never closed.
+fn read_field(heap: Global, text: &[u8]) -> Result<Option<Piece>, AllocError>
+    ensures cases { FieldOf text.now result }
 {
-    if at < text.len() && text[at] == b'"' {
-        return read_quoted(heap, text, at);
+    if let [b'"', quoted @ ..] = text {
+        return read_quoted(heap, quoted);
     }
-    let end = plain_end(text, at);
-    let bytes = Vec::from_slice(heap, &text[at..end])?;
-    Ok(Piece { bytes, end })
+    let (plain, after) = text.split_at(plain_len(text));
+    Ok(Some(Piece {
+        bytes: Vec::from_slice(heap, plain)?,
+        after,
+    }))
 }
 
-// The quoted field that begins at `at`.
-fn read_quoted(heap: Global, text: &[u8], at: usize) -> Result<Piece, ReadError>
-    requires within { at < length text.now }
-    requires quote { slice_index text.now at ≡ 34 }
-    ensures cases { FieldAt text.now at result }
+// The field whose opening quote stands before `text`, or `None` where no quote closes it.
+fn read_quoted(heap: Global, text: &[u8]) -> Result<Option<Piece>, AllocError>
+    ensures cases { FieldOf (34 ∷ text.now) result }
 {
     let mut bytes = Vec::new(heap);
-    let mut end = at + 1;
-    'bytes: while end < text.len() {
-        let b = text[end];
-        end += 1;
-        if b == b'"' {
-            if end == text.len() || text[end] != b'"' {
-                return Ok(Piece { bytes, end });
+    let mut rest = text;
+    'bytes: loop {
+        match rest {
+            [] => return Ok(None),
+            [b'"', b'"', more @ ..] => {
+                bytes.push(b'"')?;
+                rest = more;
             }
-            end += 1;
+            [b'"', after @ ..] => return Ok(Some(Piece { bytes, after })),
+            [b, more @ ..] => {
+                bytes.push(*b)?;
+                rest = more;
+            }
         }
-        bytes.push(b)?;
     }
-    Err(ReadError::Malformed {
-        fault: Fault::OpenQuote,
-        at,
-    })
 }
 
-// Where the first comma, quote, carriage return or line feed from `at` on stands, or the text's length.
-fn plain_end(text: &[u8], at: usize) -> usize
-    requires { at ≤ length text.now }
-    ensures within { result ≤ length text.now }
-    ensures bound { at ≤ result }
-    ensures before { (k : ℕ) → at ≤ k → k < result → Special (slice_index text.now k) → ⊥ }
-    ensures stops { result < length text.now → Special (slice_index text.now result) }
+// How many plain bytes stand at the front of `text`.
+fn plain_len(text: &[u8]) -> usize
+    ensures { result ≡ prefix_len is_plain text.now }
 {
-    let mut end = at;
-    'bytes: while end < text.len() {
-        match text[end] {
-            b',' | b'"' | b'\r' | b'\n' => return end,
-            _ => end += 1,
-        }
-    }
-    end
+    text.iter().take_while(|b| is_plain(**b)).count()
 }
 
-// What follows a field: a comma, a row's end that is so many bytes wide, or what may not stand there.
-enum Follow {
-    Comma,
-    End(usize),
-    Wrong(Fault),
+// Whether `b` may stand in a field that is not quoted.
+fn is_plain(b: u8) -> bool
+    ensures { result ≡ is_plain b }
+{
+    !matches!(b, b',' | b'"' | b'\r' | b'\n')
 }
 
-// What stands at the front of `rest`, which begins right after a field.
+// What follows a field: a comma or a row's end, each with what is left after it.
+enum Follow<'a> {
+    Comma(&'a [u8]),
+    End(&'a [u8]),
+}
+
+// What stands at the front of `text`, which begins right after a field.
 // A quote after a closing quote belongs to the field, so one that stands here is inside a plain field.
-fn after_field(rest: &[u8]) -> Follow
-    ensures cases { Followed rest.now result }
+fn after_field(text: &[u8]) -> Result<Follow, Fault>
+    ensures cases { Followed text.now result }
 {
-    match rest {
-        [] => Follow::End(0),
-        [b',', ..] => Follow::Comma,
-        [b'\n', ..] => Follow::End(1),
-        [b'\r', more @ ..] => match more {
-            [b'\n', ..] => Follow::End(2),
-            _ => Follow::Wrong(Fault::LoneReturn),
-        },
-        [b'"', ..] => Follow::Wrong(Fault::QuoteInField),
-        _ => Follow::Wrong(Fault::TextAfterQuote),
+    match text {
+        [] => Ok(Follow::End(text)),
+        [b',', more @ ..] => Ok(Follow::Comma(more)),
+        [b'\n', more @ ..] => Ok(Follow::End(more)),
+        [b'\r', b'\n', more @ ..] => Ok(Follow::End(more)),
+        [b'\r', ..] => Err(Fault::LoneReturn),
+        [b'"', ..] => Err(Fault::QuoteInField),
+        _ => Err(Fault::TextAfterQuote),
     }
 }
 
@@ -193,6 +183,7 @@ fn line_feeds(text: &[u8]) -> usize
     ensures value { result ≡ count_of 10 text.now }
     ensures bound { result ≤ length text.now }
 {
+    // `filter` and `count` were tried and are slower: this loop is compiled to one without a branch.
     let mut n = 0;
     'bytes: for b in text {
         if *b == b'\n' {
@@ -216,17 +207,15 @@ pub fn after_mark(text: &[u8]) -> usize
 pub fn column(names: &Row, name: &[u8]) -> Option<usize>
     ensures cases { FirstOf (cells names.now) name.now result }
 {
-    'fields: for (i, field) in names.fields.iter().enumerate() {
-        if field.as_slice() == name {
-            return Some(i);
-        }
-    }
-    None
+    names
+        .fields
+        .iter()
+        .position(|field| field.as_slice() == name)
 }
 
 // The line, counted from 1, on which the byte at `at` stands.
 pub fn line_of(text: &[u8], at: usize) -> usize
     ensures value { result ≡ 1 + count_of 10 (take at text.now) }
 {
-    1 + line_feeds(&text[0..at.min(text.len())])
+    1 + line_feeds(&text[..at.min(text.len())])
 }

@@ -1,28 +1,32 @@
-use Rattle.std.proofs.Common.{◌≡◌, ℕ, ◌<◌, List, [], map, length, get_or, vec_items, Vec, sym, ap, ◌∙◌, arith, below_more}
+use Rattle.std.proofs.Common.{◌≡◌, ℕ, ◌<◌, List, [], ◌∷◌, map, length, get_or, vec_items, Vec, sym, ◌∙◌, subst, arith, rules, MatchOption, Option, Some, None}
+use borrow.Author.Tests.{tests}
+use Rattle.std.specs.List.{AllWithin, HoldsAt}
 use Rattle.std.proofs.lemmas.Slice.Eq.{slice_eq-Decides}
+use Rattle.std.proofs.lemmas.Iterator.{IsFirst-from_position, YieldsList-from_slice}
 use Rattle.std.proofs.lemmas.List.{get_or-map, length-map}
-use Rattle.std.proofs.lemmas.Bool.{both_ways}
-use Rattle.csv_rows.proofs.column.Goals as goal
 use Rattle.std.proofs.lemmas.Bool.Decides.{Decides-eqb}
+use Rattle.csv_rows.specs.Reads.{FirstOf}
+use Rattle.csv_rows.proofs.column.Goals as goal
 
--- the cell at i is what was read there
-cell : {A : Type 0} (items xs : List (Vec ℕ A)) (i : ℕ) (v : Vec ℕ A) (s : List ℕ) → items ≡ xs → i < length items → v ≡ get_or items i v → s ≡ vec_items v → (i < length (map vec_items xs)) × (get_or (map vec_items xs) i [] ≡ s)
-cell items xs i v s same lt is e = (
-  omega (arith, length-map xs vec_items, ap length same),
-  get_or-map vec_items xs i v [] (omega (arith, ap length same)) ∙ ap vec_items (sym (is ∙ ap (λ l. get_or l i v) same)) ∙ sym e,
+cell : {Z : Type 0} (P : List ℕ → Type 0) (xs : List (Vec ℕ Z)) (k : ℕ) → k < length xs → ((d : Vec ℕ Z) → P (vec_items (get_or xs k d))) → P (get_or (map vec_items xs) k [])
+cell P [] k lt h = absurd (omega arith)
+cell P (v ∷ xs) k lt h = subst P (sym (get_or-map vec_items (v ∷ xs) k v [] lt)) (h v)
+
+first_of : {Z : Type 0} (xs : List (Vec ℕ Z)) (name : List ℕ) (r : Option ℕ) → MatchOption r (AllWithin (λ v. vec_items v ≡ name → ⊥) xs 0 (length xs)) (λ i. (i < length xs) × HoldsAt (λ v. vec_items v ≡ name) xs i × AllWithin (λ v. vec_items v ≡ name → ⊥) xs 0 i) → FirstOf (map vec_items xs) name r
+first_of xs name None h = λ k lt.
+    let within : k < length xs = omega (arith, length-map xs vec_items) in
+    cell (λ x. x ≡ name → ⊥) xs k within (λ d. h k d (omega arith) within)
+first_of xs name (Some i) h = (
+  omega (arith, h.0, length-map xs vec_items),
+  cell (λ x. x ≡ name) xs i h.0 h.1,
+  λ k lt. cell (λ x. x ≡ name → ⊥) xs k (omega (arith, h.0)) (λ d. h.2 k d (omega arith) lt),
 )
 
-pub returns-then-eq : goal.returns-then-eq
-returns-then-eq c =
-    let at = cell _ _ _ _ _ c.deref-field-items.ensures.value c.fields-test.true c.field-item.is c.as_slice.ensures.value in
-    record { cases = (at.0, at.1 ∙ (slice_eq-Decides Decides-eqb _ _ _ c.eq.ensures).0 c.if-eq.true, c.fields.invariant) }
-
-pub fields-preserved : goal.fields-preserved
-fields-preserved c =
-    let at = cell _ _ _ _ _ c.deref-field-items.ensures.value c.fields-test.true c.field-item.is c.as_slice.ensures.value in
-    below_more _ _ c.fields.invariant (λ e. both_ways _ c.if-eq.false ((slice_eq-Decides Decides-eqb _ _ _ c.eq.ensures).1 (sym at.1 ∙ e)))
-
 pub returns : goal.returns
-returns c = record {
-  cases = λ k h. c.fields.invariant k (omega (arith, h, c.fields-test.false, ap length c.deref-field-items.ensures.value, length-map (vec_items c.args.names.now.fields) vec_items));
-}
+returns c =
+    let items : List (Vec ℕ _) = vec_items c.args.names.now.fields in
+    let name = c.args.name.now in
+    record {
+      cases = first_of items name c.position.result (IsFirst-from_position _ _ c.position.result (λ v. vec_items v ≡ name) (λ v. vec_items v ≡ name → ⊥) c.position.ensures.ran (YieldsList-from_slice items (c.iter.ensures.rest ∙ c.deref.ensures.value))
+          (λ x q k. let h = k in search (rules, slice_eq-Decides Decides-eqb)) (λ x q k. search (rules, tests, slice_eq-Decides Decides-eqb)));
+    }

@@ -1,9 +1,9 @@
-use Rattle.std.proofs.Common.{◌-◌, ◌<◌, ◌≤◌, length, vec_items}
-use Rattle.csv_rows.proofs.Quotes.{Inside}
+use Rattle.std.proofs.Common.{◌≡◌, ◌++◌, length, vec_items}
+use Rattle.csv_rows.specs.Grammar.{doubled}
 use Rattle.csv_rows.proofs.read_quoted.Given as goal
 
 abbrev pub invariant-bytes : goal.invariant-bytes
-invariant-bytes l = (l.at < l.end) × (l.end ≤ length l.text) × Inside l.text l.at (vec_items l.bytes) l.end
+invariant-bytes l = l.text ≡ doubled (vec_items l.bytes) ++ l.rest
 
 abbrev pub decreases-bytes : goal.decreases-bytes
-decreases-bytes l = length l.text - l.end
+decreases-bytes l = length l.rest
