@@ -3,19 +3,14 @@
 #![tactic(auto)]
 
 use frontend::run::answer;
-use std::alloc::{AllocError, Global};
 use std::fs;
 
-fn words_of(heap: Global, command: &str) -> Result<Vec<String>, AllocError> {
-    let mut words = Vec::new(heap);
-    for word in command.split_whitespace() {
-        words.push(String::from_str(heap, word)?)?;
-    }
-    Ok(words)
-}
-
 fn play(rt: &HostRuntime, command: &str) -> anyhow::Result<()> {
-    let words = words_of(rt.alloc(), command)?;
+    let heap = rt.alloc();
+    let words = command
+        .split_whitespace()
+        .map(|word| String::from_str(heap, word))
+        .try_collect::<Vec<String>>(heap)?;
     println!(rt; "$ books {command}")?;
     match answer(rt, words.as_slice()) {
         Ok(page) => rt.println(page)?,

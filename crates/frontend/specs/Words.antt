@@ -1,8 +1,10 @@
 -- What the program's words ask for.
-use Rattle.std.specs.Prelude.{◌≡◌, ℕ, List, Ok, Err, codes, Result, ◌≢◌}
+use Rattle.std.specs.Prelude.{◌≡◌, ◌≢◌, ℕ, List, [], ◌∷◌, length, IfOk, IfErr, Ok, Err, codes, Result}
+use Rattle.std.specs.Borrow.{Bor}
 use Rattle.frontend.specs.declared.options.Format as format
 use Rattle.frontend.specs.declared.options.Format.TheVariants.{Text, Tsv}
-use Rattle.frontend.specs.declared.options.Files.{Files}
+use Rattle.frontend.specs.declared.options.Source.{Source}
+use Rattle.frontend.specs.declared.options.Source.TheVariants.{Input, File}
 use Rattle.frontend.specs.declared.options.Request.{Request}
 use Rattle.frontend.specs.declared.options.Request.TheVariants.{Help, Run}
 use Rattle.frontend.specs.declared.options.BadWords.{BadWords}
@@ -13,17 +15,23 @@ abbrev pub format_word : format.Format → List ℕ
 format_word Text = codes "text"
 format_word Tsv = codes "tsv"
 
--- Both files are to be read from standard input.
-abbrev pub InputTwice : Files → Type 0
-InputTwice files = (files.usage.now ≡ codes "-") × (files.credits.now ≡ codes "-")
+-- A word is read as the format that it asks for, and no other word is read.
+pub record ReadsFormat (word : Bor (List ℕ)) (r : Result format.Format BadWords) : Type 0 where
+  pub made : IfOk r (λ f. word.now ≡ format_word f)
+  pub succeeds : (f : format.Format) → word.now ≡ format_word f → r ≡ Ok f
+  pub told : IfErr r (λ e. e ≡ bad.Format word)
+
+-- A word names standard input, if it is -, and else the file of that name.
+abbrev pub Names : Bor (List ℕ) → Source → Type 0
+Names word Input = word.now ≡ codes "-"
+Names word (File name) = (name ≡ word) × (word.now ≢ codes "-")
 
 -- Two files are run, unless both are standard input; any other number of files is told.
-abbrev pub Asks : format.Format → Files → Result Request BadWords → Type 0
-Asks f files (Ok Help) = ⊥
-Asks f files (Ok (Run g usage credits)) = (files.count ≡ 2) × (InputTwice files → ⊥) × (g ≡ f) × (usage ≡ files.usage) × (credits ≡ files.credits)
-Asks f files (Err bad.Memory) = ⊥
-Asks f files (Err (bad.Unknown w)) = ⊥
-Asks f files (Err (bad.Format w)) = ⊥
-Asks f files (Err bad.FormatMissing) = ⊥
-Asks f files (Err (bad.Files n)) = (n ≡ files.count) × (files.count ≢ 2)
-Asks f files (Err bad.InputTwice) = (files.count ≡ 2) × InputTwice files
+abbrev pub Asks : format.Format → List Source → Result Request BadWords → Type 0
+Asks f named (Ok Help) = ⊥
+Asks f named (Ok (Run g files)) = (g ≡ f) × (named ≡ files.usage ∷ files.credits ∷ []) × (named ≢ Input ∷ Input ∷ [])
+Asks f named (Err (bad.Unknown w)) = ⊥
+Asks f named (Err (bad.Format w)) = ⊥
+Asks f named (Err bad.FormatMissing) = ⊥
+Asks f named (Err (bad.Files n)) = (n ≡ length named) × (length named ≢ 2)
+Asks f named (Err bad.InputTwice) = named ≡ Input ∷ Input ∷ []

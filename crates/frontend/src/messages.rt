@@ -2,61 +2,44 @@
 use crate::options::BadWords;
 use ledger::shown::Count;
 use reading::failure::Problem;
-use std::alloc::{AllocError, Global};
+use std::alloc::{AllocError, AllocFailed};
 use std::{fmt, io};
 
 // Why there is no page.
 #[derive(Drop)]
-pub enum Message {
+pub enum Message<'a> {
     Memory,
-    Words(BadWords),
+    Words(BadWords<'a>),
     NoFile {
-        file: String,
+        file: &'a str,
         error: io::Error,
     },
     BadInput {
-        file: String,
+        file: &'a str,
         line: usize,
         problem: Problem,
     },
 }
 
-impl Message {
-    pub(crate) fn no_file(heap: Global, file: &str, error: io::Error) -> Message {
-        match String::from_str(heap, file) {
-            Ok(file) => Message::NoFile { file, error },
-            Err(_) => Message::Memory,
-        }
-    }
-
-    pub(crate) fn bad_input(heap: Global, file: &str, line: usize, problem: Problem) -> Message {
-        match String::from_str(heap, file) {
-            Ok(file) => Message::BadInput {
-                file,
-                line,
-                problem,
-            },
-            Err(_) => Message::Memory,
-        }
-    }
-}
-
-impl From<AllocError> for Message {
-    fn from(_e: AllocError) -> Message {
+impl From<AllocError> for Message<'_> {
+    fn from(_e: AllocError) -> Self {
         Message::Memory
     }
 }
 
-impl From<BadWords> for Message {
-    fn from(e: BadWords) -> Message {
-        match e {
-            BadWords::Memory => Message::Memory,
-            other => Message::Words(other),
-        }
+impl<T: Drop> From<AllocFailed<T>> for Message<'_> {
+    fn from(_e: AllocFailed<T>) -> Self {
+        Message::Memory
     }
 }
 
-impl fmt::Display for Message {
+impl<'a> From<BadWords<'a>> for Message<'a> {
+    fn from(e: BadWords<'a>) -> Message<'a> {
+        Message::Words(e)
+    }
+}
+
+impl fmt::Display for Message<'_> {
     fn fmt<W: fmt::Write>(&self, f: &mut fmt::Formatter<W>) -> fmt::Result {
         match self {
             Message::Memory => f.write_str("there is not enough memory"),

@@ -1,9 +1,9 @@
 // The words that the program is given.
-ghost use Rattle.std.specs.Prelude.{◌≡◌, IfOk, Ok};
-ghost use Rattle.frontend.specs.Words.{Asks, format_word};
+ghost use Rattle.frontend.specs.Words.{Asks};
 
+use crate::messages::Message;
 use ledger::shown::Count;
-use std::alloc::{AllocError, Global};
+use std::alloc::Global;
 use std::fmt;
 
 pub(crate) const HELP: &str =
@@ -20,38 +20,85 @@ CREDITS  the members' credits: comma-separated text with the columns member, cen
 --format tsv   tab-separated values, amounts in whole cents
 ";
 
-#[derive(Clone, Copy)]
+#[derive(Clone, Copy, PartialEq, Eq, Debug)]
 pub(crate) enum Format {
     Text,
     Tsv,
 }
 
+impl<'a> TryFrom<&'a str> for Format {
+    ghost use Rattle.frontend.specs.Words.{ReadsFormat};
+
+    type Error = BadWords<'a>;
+
+    ghost try_from_gives = { ReadsFormat };
+
+    fn try_from(word: &'a str) -> Result<Format, BadWords<'a>> {
+        match word {
+            "text" => Ok(Format::Text),
+            "tsv" => Ok(Format::Tsv),
+            _ => Err(BadWords::Format(word)),
+        }
+    }
+}
+
+// Where one of the two files is read from.
+#[derive(Clone, Copy, PartialEq, Eq, Debug)]
+pub(crate) enum Source<'a> {
+    Input,
+    File(&'a str),
+}
+
+impl<'a> From<&'a str> for Source<'a> {
+    ghost use Rattle.frontend.specs.Words.{Names};
+
+    ghost from_gives = { Names };
+
+    fn from(word: &'a str) -> Source<'a> {
+        match word {
+            "-" => Source::Input,
+            _ => Source::File(word),
+        }
+    }
+}
+
+impl<'a> Source<'a> {
+    // What it is called in a message.
+    pub(crate) fn name(self) -> &'a str {
+        match self {
+            Source::Input => "standard input",
+            Source::File(path) => path,
+        }
+    }
+}
+
+// The two files that a run bills.
+#[derive(Clone, Copy, PartialEq, Eq, Debug)]
+pub(crate) struct Files<'a> {
+    pub(crate) usage: Source<'a>,
+    pub(crate) credits: Source<'a>,
+}
+
 // What is asked for.
-#[derive(Clone, Copy)]
+#[derive(Clone, Copy, PartialEq, Eq, Debug)]
 pub(crate) enum Request<'a> {
     Help,
-    Run {
-        format: Format,
-        usage: &'a str,
-        credits: &'a str,
-    },
+    Run { format: Format, files: Files<'a> },
 }
 
 // Why the words are not taken.
-#[derive(Drop)]
-pub enum BadWords {
-    Memory,
-    Unknown(String),
-    Format(String),
+#[derive(Clone, Copy, PartialEq, Eq, Debug)]
+pub enum BadWords<'a> {
+    Unknown(&'a str),
+    Format(&'a str),
     FormatMissing,
     Files(usize),
     InputTwice,
 }
 
-impl fmt::Display for BadWords {
+impl fmt::Display for BadWords<'_> {
     fn fmt<W: fmt::Write>(&self, f: &mut fmt::Formatter<W>) -> fmt::Result {
         match self {
-            BadWords::Memory => f.write_str("there is not enough memory"),
             BadWords::Unknown(word) => write!(
                 f,
                 "found {word:?}, wanted --format, --help or a file; see --help"
@@ -77,92 +124,38 @@ impl fmt::Display for BadWords {
     }
 }
 
-impl From<AllocError> for BadWords {
-    fn from(_e: AllocError) -> BadWords {
-        BadWords::Memory
-    }
-}
-
-fn format_named(heap: Global, word: &str) -> Result<Format, BadWords>
-    ensures made { IfOk result (λ f. word.now ≡ format_word f) }
-    ensures succeeds { (f : Format) → word.now ≡ format_word f → result ≡ Ok f }
+fn run_request<'a>(format: Format, named: &[Source<'a>]) -> Result<Request<'a>, BadWords<'a>>
+    ensures { Asks format named.now result }
 {
-    match word {
-        "text" => Ok(Format::Text),
-        "tsv" => Ok(Format::Tsv),
-        _ => Err(BadWords::Format(String::from_str(heap, word)?)),
-    }
-}
-
-// The words that name files, taken from the front one by one.
-#[derive(Clone, Copy)]
-struct Files<'a> {
-    usage: &'a str,
-    credits: &'a str,
-    count: usize,
-}
-
-impl<'a> Files<'a> {
-    fn with(self, word: &'a str) -> Files<'a> {
-        let count = self.count.saturating_add(1);
-        match self.count {
-            0 => Files {
-                usage: word,
-                credits: self.credits,
-                count,
+    match named {
+        [Source::Input, Source::Input] => Err(BadWords::InputTwice),
+        [usage, credits] => Ok(Request::Run {
+            format,
+            files: Files {
+                usage: *usage,
+                credits: *credits,
             },
-            _ => Files {
-                usage: self.usage,
-                credits: word,
-                count,
-            },
-        }
+        }),
+        _ => Err(BadWords::Files(named.len())),
     }
 }
 
-fn run_request<'a>(format: Format, files: Files<'a>) -> Result<Request<'a>, BadWords>
-    ensures { Asks format files.entry result }
-{
-    if files.count != 2 {
-        return Err(BadWords::Files(files.count));
-    }
-    if files.usage == "-" && files.credits == "-" {
-        return Err(BadWords::InputTwice);
-    }
-    Ok(Request::Run {
-        format,
-        usage: files.usage,
-        credits: files.credits,
-    })
-}
-
-pub(crate) fn parse<'a>(heap: Global, words: &'a [String]) -> Result<Request<'a>, BadWords> {
+pub(crate) fn parse<'a>(heap: Global, words: &'a [String]) -> Result<Request<'a>, Message<'a>> {
     let mut format = Format::Text;
-    let mut wants_format = false;
-    let mut files = Files {
-        usage: "",
-        credits: "",
-        count: 0,
-    };
-    for word in words {
-        let word = word.as_str();
-        if wants_format {
-            format = format_named(heap, word)?;
-            wants_format = false;
-            continue;
-        }
-        match word {
+    let mut named = Vec::new(heap);
+    let mut words = words.iter();
+    while let Some(word) = words.next() {
+        match word.as_str() {
             "--help" => return Ok(Request::Help),
-            "--format" => wants_format = true,
-            "-" => files = files.with(word),
-            _ if word.starts_with('-') => return Err(BadWords::Unknown(String::from_str(
-                heap, word,
-            )?)),
-            _ => files = files.with(word),
+            "--format" => {
+                let name = words.next().ok_or(BadWords::FormatMissing)?;
+                format = Format::try_from(name.as_str())?;
+            }
+            word if word.starts_with('-') && word != "-" => {
+                return Err(BadWords::Unknown(word).into());
+            }
+            word => named.push(Source::from(word))?,
         }
     }
-    if wants_format {
-        return Err(BadWords::FormatMissing);
-    }
-    run_request(format, files)
+    Ok(run_request(format, named.as_slice())?)
 }

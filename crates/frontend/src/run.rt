@@ -1,6 +1,6 @@
 // The whole way from the program's words to the page that it prints, or to what it says instead.
 use crate::messages::Message;
-use crate::options::{Format, HELP, Request, parse};
+use crate::options::{Files, Format, HELP, Request, Source, parse};
 use crate::{text, tsv};
 use ledger::books::Books;
 use ledger::files::{BadFile, settle_files};
@@ -8,6 +8,7 @@ use std::alloc::{AllocError, Global};
 use std::io::Read;
 use std::{fs, io};
 
+// The formats are these two, and a match says so plainer than a trait with an impl for each would.
 fn page(heap: Global, books: &Books, format: Format) -> Result<String, AllocError> {
     match format {
         Format::Text => text::page(heap, books),
@@ -15,63 +16,57 @@ fn page(heap: Global, books: &Books, format: Format) -> Result<String, AllocErro
     }
 }
 
-fn bytes_of(rt: &HostRuntime, path: &str) -> io::Result<Vec<u8>> {
-    if path == "-" {
-        let mut bytes = Vec::new(rt.alloc());
-        rt.stdin().read_to_end(&mut bytes)?;
-        return Ok(bytes);
-    }
-    fs::read(rt, path)
-}
-
-// What a file is called in a message.
-fn shown_name(path: &str) -> &str {
-    if path == "-" { "standard input" } else { path }
-}
-
-fn read_input(rt: &HostRuntime, path: &str) -> Result<Vec<u8>, Message> {
-    match bytes_of(rt, path) {
-        Ok(bytes) => Ok(bytes),
-        Err(e) => Err(Message::no_file(rt.alloc(), shown_name(path), e)),
+fn bytes_of(rt: &HostRuntime, source: Source<'_>) -> io::Result<Vec<u8>> {
+    match source {
+        Source::Input => {
+            let mut bytes = Vec::new(rt.alloc());
+            rt.stdin().read_to_end(&mut bytes)?;
+            Ok(bytes)
+        }
+        Source::File(path) => fs::read(rt, path),
     }
 }
 
-fn settled_page(
+fn read_source<'a>(rt: &HostRuntime, source: Source<'a>) -> Result<Vec<u8>, Message<'a>> {
+    bytes_of(rt, source).map_err(|error| Message::NoFile {
+        file: source.name(),
+        error,
+    })
+}
+
+// What is said where one of the two files is not taken.
+fn refusal<'a>(files: Files<'a>, bad: BadFile) -> Message<'a> {
+    let (source, line, problem) = match bad {
+        BadFile::Memory => return Message::Memory,
+        BadFile::Usage { line, problem } => (files.usage, line, problem),
+        BadFile::Credits { line, problem } => (files.credits, line, problem),
+    };
+    Message::BadInput {
+        file: source.name(),
+        line,
+        problem,
+    }
+}
+
+fn settled_page<'a>(
     rt: &HostRuntime,
     format: Format,
-    usage: &str,
-    credits: &str,
-) -> Result<String, Message> {
+    files: Files<'a>,
+) -> Result<String, Message<'a>> {
     let heap = rt.alloc();
-    let credits_bytes = read_input(rt, credits)?;
-    let usage_bytes = read_input(rt, usage)?;
-    match settle_files(heap, usage_bytes.as_slice(), credits_bytes.as_slice()) {
-        Ok(books) => Ok(page(heap, &books, format)?),
-        Err(BadFile::Memory) => Err(Message::Memory),
-        Err(BadFile::Usage { line, problem }) => Err(Message::bad_input(
-            heap,
-            shown_name(usage),
-            line,
-            problem,
-        )),
-        Err(BadFile::Credits { line, problem }) => Err(Message::bad_input(
-            heap,
-            shown_name(credits),
-            line,
-            problem,
-        )),
-    }
+    let credits = read_source(rt, files.credits)?;
+    let usage = read_source(rt, files.usage)?;
+    let books = settle_files(heap, usage.as_slice(), credits.as_slice()).map_err(|bad| refusal(
+        files, bad,
+    ))?;
+    Ok(page(heap, &books, format)?)
 }
 
 // What the program prints for these words.
-pub fn answer(rt: &HostRuntime, words: &[String]) -> Result<String, Message> {
+pub fn answer<'a>(rt: &HostRuntime, words: &'a [String]) -> Result<String, Message<'a>> {
     let heap = rt.alloc();
     match parse(heap, words)? {
         Request::Help => Ok(String::from_str(heap, HELP)?),
-        Request::Run {
-            format,
-            usage,
-            credits,
-        } => settled_page(rt, format, usage, credits),
+        Request::Run { format, files } => settled_page(rt, format, files),
     }
 }
