@@ -20,5 +20,6 @@ fn run(rt: &HostRuntime) -> io::Result<ExitCode> {
 }
 
 fn main(rt: HostRuntime) -> ExitCode {
+    // Where nothing can be written, the status alone says so.
     run(&rt).unwrap_or(ExitCode::FAILURE)
 }

@@ -19,14 +19,10 @@ fn play(rt: &HostRuntime, command: &str) -> anyhow::Result<()> {
     Ok(())
 }
 
-fn run(rt: &HostRuntime) -> anyhow::Result<()> {
-    let commands = fs::read_to_string(rt, "commands.txt")?;
+fn main(rt: HostRuntime) -> anyhow::Result<()> {
+    let commands = fs::read_to_string(&rt, "commands.txt")?;
     for command in commands.as_str().lines() {
-        play(rt, command)?;
+        play(&rt, command)?;
     }
     Ok(())
-}
-
-fn main(rt: HostRuntime) -> anyhow::Result<()> {
-    run(&rt)
 }

@@ -1,3 +1,4 @@
+pub mod Aligned
 pub mod Gathers
 pub mod Lists
 pub mod Shorts

@@ -1,78 +1,84 @@
 // Rows of cells, set in columns.
-ghost use Rattle.std.specs.Prelude.{replicate};
+ghost use Rattle.std.specs.Prelude.{◌<◌, ◌^◌, length};
 ghost use Rattle.std.specs.Fmt.{WritesOnOk};
+ghost use Rattle.frontend.specs.Grid.{aligned};
 
 use std::alloc::{AllocError, Global};
 use std::fmt;
 
-#[derive(Clone, Copy)]
+#[derive(Clone, Copy, PartialEq, Eq, Debug)]
 pub enum Align {
     Left,
     Right,
 }
 
-#[derive(Drop)]
+// The side that a column's texts stand at, and how many characters the longest of them has.
+#[derive(Clone, Copy, PartialEq, Eq, Debug)]
+struct Column {
+    align: Align,
+    width: usize,
+}
+
+impl Column {
+    fn write_cell<W: fmt::Write>(self, text: &str, f: &mut fmt::Formatter<W>) -> fmt::Result
+        requires { length text.now < 2 ^ 64 }
+        ensures prints { WritesOnOk W.write_str_gives f.old result (aligned self.align self.width text.now) f.new }
+    {
+        let width = self.width;
+        match self.align {
+            Align::Left => write!(f, "{text:<width$}"),
+            Align::Right => write!(f, "{text:>width$}"),
+        }
+    }
+}
+
+#[derive(Drop, Debug)]
 pub struct Grid {
-    columns: Vec<Align>,
-    widths: Vec<usize>,
+    columns: Vec<Column>,
     rows: Vec<Vec<String>>,
 }
 
 impl Grid {
     pub fn new(heap: Global, columns: &[Align]) -> Result<Grid, AllocError> {
-        let mut widths = Vec::new(heap);
-        for _c in columns {
-            widths.push(0)?;
-        }
+        let columns = columns
+            .iter()
+            .map(|align| Column {
+                align: *align,
+                width: 0,
+            })
+            .collect(heap)?;
         Ok(Grid {
-            columns: Vec::from_slice(heap, columns)?,
-            widths,
+            columns,
             rows: Vec::new(heap),
         })
     }
 
+    // A row has a cell for each column.
     pub fn push(&mut self, row: Vec<String>) -> Result<(), AllocError> {
-        for (i, cell) in row.iter().enumerate() {
-            if let Some(width) = self.widths.get_mut(i) {
-                *width = (*width).max(cell.chars().count());
-            }
+        for (column, cell) in self.columns.iter_mut().zip(row.iter()) {
+            column.width = column.width.max(cell.chars().count());
         }
         self.rows.push(row)?;
         Ok(())
     }
 }
 
-// Writes so many spaces.
-fn pad<W: fmt::Write>(f: &mut fmt::Formatter<W>, n: usize) -> fmt::Result
-    ensures prints { WritesOnOk W.write_str_gives f.old result (replicate n 32) f.new }
-{
-    for _i in 0..n {
-        f.write_char(' ')?;
-    }
-    Ok(())
-}
-
 fn write_row<W: fmt::Write>(
-    grid: &Grid,
-    row: &Vec<String>,
+    columns: &[Column],
+    row: &[String],
     f: &mut fmt::Formatter<W>,
 ) -> fmt::Result {
-    let mut owed = 0usize;
-    for (i, cell) in row.iter().enumerate() {
-        let width = grid.widths.get(i).copied().unwrap_or(0);
-        let space = width.saturating_sub(cell.chars().count());
-        let right = match grid.columns.get(i) {
-            Some(Align::Right) => true,
-            _ => false,
-        };
-        pad(f, owed)?;
-        owed = 2;
-        if right {
-            pad(f, space)?;
-        } else {
-            owed = space.saturating_add(2);
+    let last = row.len().saturating_sub(1);
+    for (i, (column, cell)) in columns.iter().zip(row.iter()).enumerate() {
+        if i > 0 {
+            f.write_str("  ")?;
         }
-        f.write_str(cell.as_str())?;
+        if i == last && column.align == Align::Left {
+            // No spaces stand at the end of a line.
+            f.write_str(cell.as_str())?;
+        } else {
+            column.write_cell(cell.as_str(), f)?;
+        }
     }
     f.write_char('\n')
 }
@@ -80,7 +86,7 @@ fn write_row<W: fmt::Write>(
 impl fmt::Display for Grid {
     fn fmt<W: fmt::Write>(&self, f: &mut fmt::Formatter<W>) -> fmt::Result {
         for row in self.rows.iter() {
-            write_row(self, row, f)?;
+            write_row(self.columns.as_slice(), row.as_slice(), f)?;
         }
         Ok(())
     }

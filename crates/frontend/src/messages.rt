@@ -1,8 +1,11 @@
 // What is said in place of a page.
+ghost use Rattle.std.specs.Prelude.{◌≡◌};
+ghost use Rattle.frontend.specs.declared.messages.Message.TheVariants.{Memory, Words};
+
 use crate::options::BadWords;
 use ledger::shown::Count;
 use reading::failure::Problem;
-use std::alloc::{AllocError, AllocFailed};
+use std::alloc::AllocError;
 use std::{fmt, io};
 
 // Why there is no page.
@@ -22,20 +25,18 @@ pub enum Message<'a> {
 }
 
 impl From<AllocError> for Message<'_> {
+    ghost from_gives = { λ _ m. m ≡ Memory };
+
     fn from(_e: AllocError) -> Self {
         Message::Memory
     }
 }
 
-impl<T: Drop> From<AllocFailed<T>> for Message<'_> {
-    fn from(_e: AllocFailed<T>) -> Self {
-        Message::Memory
-    }
-}
-
 impl<'a> From<BadWords<'a>> for Message<'a> {
-    fn from(e: BadWords<'a>) -> Message<'a> {
-        Message::Words(e)
+    ghost from_gives = { λ words m. m ≡ Words words };
+
+    fn from(words: BadWords<'a>) -> Message<'a> {
+        Message::Words(words)
     }
 }
 

@@ -3,7 +3,7 @@ ghost use Rattle.frontend.specs.Words.{Asks};
 
 use crate::messages::Message;
 use ledger::shown::Count;
-use std::alloc::Global;
+use std::alloc::{AllocError, Global};
 use std::fmt;
 
 pub(crate) const HELP: &str =
@@ -154,7 +154,7 @@ pub(crate) fn parse<'a>(heap: Global, words: &'a [String]) -> Result<Request<'a>
             word if word.starts_with('-') && word != "-" => {
                 return Err(BadWords::Unknown(word).into());
             }
-            word => named.push(Source::from(word))?,
+            word => named.push(Source::from(word)).map_err(AllocError::from)?,
         }
     }
     Ok(run_request(format, named.as_slice())?)
