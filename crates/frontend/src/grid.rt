@@ -22,7 +22,8 @@ struct Column {
 impl Column {
     fn write_cell<W: fmt::Write>(self, text: &str, f: &mut fmt::Formatter<W>) -> fmt::Result
         requires { length text.now < 2 ^ 64 }
-        ensures prints { WritesOnOk W.write_str_gives f.old result (aligned self.align self.width text.now) f.new }
+        ensures prints { WritesOnOk W.write_str_gives f.old result
+            (aligned self.align self.width text.now) f.new }
     {
         let width = self.width;
         match self.align {

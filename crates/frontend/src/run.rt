@@ -56,9 +56,8 @@ fn settled_page<'a>(
     let heap = rt.alloc();
     let credits = read_source(rt, files.credits)?;
     let usage = read_source(rt, files.usage)?;
-    let books = settle_files(heap, usage.as_slice(), credits.as_slice()).map_err(|bad| refusal(
-        files, bad,
-    ))?;
+    let settled = settle_files(heap, usage.as_slice(), credits.as_slice());
+    let books = settled.map_err(|bad| refusal(files, bad))?;
     Ok(page(heap, &books, format)?)
 }
 
