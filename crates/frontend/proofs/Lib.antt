@@ -1,4 +1,2 @@
 pub mod Aligned
-pub mod Gathers
-pub mod Lists
-pub mod Shorts
+pub mod Collects

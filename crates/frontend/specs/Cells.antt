@@ -1,12 +1,14 @@
 -- What stands in the cells and the lists of the page for people.
-use Rattle.std.specs.Prelude.{ℕ, cond, List, [], ◌∷◌, ◌++◌, map, is_some, Some, None, codes, Option, nat_lt}
-use Rattle.std.specs.List.{zip, concat, flat_map as gathered}
-use Rattle.workshop.specs.Credit.{out_at}
+use Rattle.std.specs.Prelude.{ℕ, cond, List, ◌++◌, map, length, Some, None, codes, string_bytes, Option, String, ◌==◌}
+use Rattle.std.specs.declared.alloc.Global.{Global}
+use Rattle.std.specs.List.{join_by}
 use Rattle.workshop.specs.declared.credit.Standing.{Standing}
 use Rattle.workshop.specs.declared.credit.Standing.TheVariants.{Left, RanOut, Unknown}
 use Rattle.ledger.specs.Written.{counted, escaped, money, spotted}
-use Rattle.ledger.specs.declared.accounts.Statement.{Statement}
+use Rattle.ledger.specs.declared.books.Machine.{Machine}
+use Rattle.ledger.specs.declared.books.Member.{Member}
 use Rattle.ledger.specs.declared.shown.Spot.{Spot}
+use Rattle.frontend.specs.Told.{all_stopped, all_unrated}
 
 -- What is billed: an amount only where there is a total.
 abbrev pub billed_text : Option ℕ → List ℕ
@@ -30,23 +32,17 @@ why_text (Some s) = spotted s
 why_text None = codes "a sum above 18446744073709551615 cents"
 
 -- The texts with a comma between them, or that there are none.
-abbrev pub listed : List (List ℕ) → List ℕ
-listed [] = codes " none"
-listed (t ∷ ts) = codes " " ++ (t ++ concat (map (λ u. codes ", " ++ u) ts))
-
--- The name of a member whose credit ran out.
-abbrev pub stop_text : List ℕ × Statement → List (List ℕ)
-stop_text m = cond (is_some (out_at m.1.standing)) (escaped m.0 ∷ []) []
+abbrev pub listed : List (String Global) → List ℕ
+listed texts = cond (length texts == 0) (codes " none") (codes " " ++ join_by string_bytes (codes ", ") texts)
 
 -- The names of the members whose credit ran out, in their order.
-abbrev pub to_stop : List (List ℕ) → List Statement → List (List ℕ)
-to_stop names said = gathered stop_text (zip names said)
+abbrev pub to_stop : List Member → List (List ℕ)
+to_stop members = map (λ m. escaped (string_bytes m.credit.member)) (all_stopped members)
 
--- A machine that has records without a rate, with how many these are.
-abbrev pub rateless_text : List ℕ × ℕ → List (List ℕ)
-rateless_text m =
-    cond (nat_lt 0 m.1) ((escaped m.0 ++ (codes " (" ++ (counted m.1 (codes "record") ++ codes ")"))) ∷ []) []
+-- A machine, with how many of its records have no rate.
+abbrev pub rateless_text : Machine → List ℕ
+rateless_text m = escaped (string_bytes m.name) ++ (codes " (" ++ (counted m.rateless (codes "record") ++ codes ")"))
 
--- The machines that have records without a rate, in their order.
-abbrev pub rateless_texts : List (List ℕ) → List ℕ → List (List ℕ)
-rateless_texts names counts = gathered rateless_text (zip names counts)
+-- The machines that have records without a rate, in their order, with how many these are.
+abbrev pub rateless_texts : List Machine → List (List ℕ)
+rateless_texts machines = map rateless_text (all_unrated machines)

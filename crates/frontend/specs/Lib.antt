@@ -1,4 +1,5 @@
 pub mod Cells
 pub mod Grid
 pub mod Lines
+pub mod Told
 pub mod Words

@@ -1,15 +1,16 @@
 -- The lines of the tab-separated values.
-use Rattle.std.specs.Prelude.{◌≡◌, ℕ, cond, List, [], ◌∷◌, ◌++◌, is_some, Some, None, codes, decimal, Option, nat_lt}
-use Rattle.std.specs.List.{zip, flat_map as gathered}
-use Rattle.workshop.specs.Credit.{out_at}
+use Rattle.std.specs.Prelude.{◌≡◌, ℕ, List, [], ◌∷◌, ◌++◌, Some, None, codes, decimal, string_bytes, Option}
+use Rattle.std.specs.List.{flat_map}
 use Rattle.workshop.specs.declared.credit.Standing.{Standing}
 use Rattle.workshop.specs.declared.credit.Standing.TheVariants.{Left, RanOut, Unknown}
 use Rattle.ledger.specs.Written.{escaped}
-use Rattle.ledger.specs.declared.accounts.Statement.{Statement}
+use Rattle.ledger.specs.declared.books.Machine.{Machine}
+use Rattle.ledger.specs.declared.books.Member.{Member as Person}
 use Rattle.ledger.specs.declared.shown.Spot.{Spot}
 use Rattle.frontend.specs.declared.tsv.Kind.{Kind}
 use Rattle.frontend.specs.declared.tsv.Kind.TheVariants.{Member, Log, Stop, NoRate}
 use Rattle.frontend.specs.declared.tsv.Values.{Values}
+use Rattle.frontend.specs.Told.{all_stopped, all_unrated}
 
 -- What a line speaks of.
 abbrev pub kind_word : Kind → List ℕ
@@ -61,17 +62,17 @@ left_cents (RanOut k) = None
 left_cents (Unknown k) = None
 
 -- The line of a member whose credit ran out.
-abbrev pub stop_line : List ℕ × Statement → List ℕ
-stop_line m = cond (is_some (out_at m.1.standing)) (short_line Stop m.0 None) []
+abbrev pub stop_line : Person → List ℕ
+stop_line m = short_line Stop (string_bytes m.credit.member) None
 
 -- A line for each member whose credit ran out, in their order.
-abbrev pub stop_lines : List (List ℕ) → List Statement → List ℕ
-stop_lines names said = gathered stop_line (zip names said)
+abbrev pub stop_lines : List Person → List ℕ
+stop_lines members = flat_map stop_line (all_stopped members)
 
--- The line of a machine that has records without a rate, with how many these are.
-abbrev pub rateless_line : List ℕ × ℕ → List ℕ
-rateless_line m = cond (nat_lt 0 m.1) (short_line NoRate m.0 (Some m.1)) []
+-- The line of a machine, with how many of its records have no rate.
+abbrev pub rateless_line : Machine → List ℕ
+rateless_line m = short_line NoRate (string_bytes m.name) (Some m.rateless)
 
 -- A line for each machine that has records without a rate, in their order.
-abbrev pub rateless_lines : List (List ℕ) → List ℕ → List ℕ
-rateless_lines names counts = gathered rateless_line (zip names counts)
+abbrev pub rateless_lines : List Machine → List ℕ
+rateless_lines machines = flat_map rateless_line (all_unrated machines)

@@ -33,29 +33,21 @@ impl Column {
     }
 }
 
-#[derive(Drop, Debug)]
-pub struct Grid {
-    columns: Vec<Column>,
-    rows: Vec<Vec<String>>,
+#[derive(Drop)]
+pub struct Grid<const N: usize> {
+    columns: [Column; N],
+    rows: Vec<[String; N]>,
 }
 
-impl Grid {
-    pub fn new(heap: Global, columns: &[Align]) -> Result<Grid, AllocError> {
-        let columns = columns
-            .iter()
-            .map(|align| Column {
-                align: *align,
-                width: 0,
-            })
-            .collect(heap)?;
-        Ok(Grid {
-            columns,
+impl<const N: usize> Grid<N> {
+    pub fn new(heap: Global, columns: [Align; N]) -> Grid<N> {
+        Grid {
+            columns: columns.map(|align| Column { align, width: 0 }),
             rows: Vec::new(heap),
-        })
+        }
     }
 
-    // A row has a cell for each column.
-    pub fn push(&mut self, row: Vec<String>) -> Result<(), AllocError> {
+    pub fn push(&mut self, row: [String; N]) -> Result<(), AllocError> {
         for (column, cell) in self.columns.iter_mut().zip(row.iter()) {
             column.width = column.width.max(cell.chars().count());
         }
@@ -64,12 +56,12 @@ impl Grid {
     }
 }
 
-fn write_row<W: fmt::Write>(
-    columns: &[Column],
-    row: &[String],
+fn write_row<const N: usize, W: fmt::Write>(
+    columns: &[Column; N],
+    row: &[String; N],
     f: &mut fmt::Formatter<W>,
 ) -> fmt::Result {
-    let last = row.len().saturating_sub(1);
+    let last = N.saturating_sub(1);
     for (i, (column, cell)) in columns.iter().zip(row.iter()).enumerate() {
         if i > 0 {
             f.write_str("  ")?;
@@ -84,10 +76,10 @@ fn write_row<W: fmt::Write>(
     f.write_char('\n')
 }
 
-impl fmt::Display for Grid {
+impl<const N: usize> fmt::Display for Grid<N> {
     fn fmt<W: fmt::Write>(&self, f: &mut fmt::Formatter<W>) -> fmt::Result {
         for row in self.rows.iter() {
-            write_row(self.columns.as_slice(), row.as_slice(), f)?;
+            write_row(&self.columns, row, f)?;
         }
         Ok(())
     }

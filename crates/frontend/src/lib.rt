@@ -6,4 +6,5 @@ pub mod messages;
 pub mod options;
 pub mod run;
 mod text;
+mod told;
 mod tsv;

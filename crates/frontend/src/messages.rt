@@ -4,7 +4,7 @@ ghost use Rattle.frontend.specs.declared.messages.Message.TheVariants.{Memory, W
 
 use crate::options::BadWords;
 use ledger::shown::Count;
-use reading::failure::Problem;
+use reading::failure::{Problem, Rejection};
 use std::alloc::AllocError;
 use std::{fmt, io};
 
@@ -13,15 +13,8 @@ use std::{fmt, io};
 pub enum Message<'a> {
     Memory,
     Words(BadWords<'a>),
-    NoFile {
-        file: &'a str,
-        error: io::Error,
-    },
-    BadInput {
-        file: &'a str,
-        line: usize,
-        problem: Problem,
-    },
+    NoFile { file: &'a str, error: io::Error },
+    BadInput { file: &'a str, rejection: Rejection },
 }
 
 impl From<AllocError> for Message<'_> {
@@ -51,12 +44,9 @@ impl fmt::Display for Message<'_> {
                     "{file}: found no file that can be read ({error}), wanted comma-separated text"
                 )
             }
-            Message::BadInput {
-                file,
-                line,
-                problem,
-            } => {
-                let told = Told(problem);
+            Message::BadInput { file, rejection } => {
+                let line = rejection.line;
+                let told = Told(&rejection.problem);
                 write!(f, "{file}, line {line}: {told}")
             }
         }
@@ -75,30 +65,25 @@ impl fmt::Display for Told<'_> {
                 "found no line, wanted a header line with the columns' names",
             ),
             Problem::MissingColumn(column) => {
-                let name = column.name();
-                write!(f, "found no column {name}, wanted one in the header line")
+                write!(f, "found no column {column}, wanted one in the header line")
             }
             Problem::ColumnTwice(column) => {
-                let name = column.name();
-                write!(f, "found the column {name} twice, wanted it once")
+                write!(f, "found the column {column} twice, wanted it once")
             }
             Problem::FieldCount { found, wanted } => {
                 let fields = Count(*found, "field");
                 write!(f, "found {fields}, wanted {wanted}")
             }
             Problem::NotText(column) => {
-                let name = column.name();
                 write!(
                     f,
-                    "found bytes that are no UTF-8 text in column {name}, wanted text"
+                    "found bytes that are no UTF-8 text in column {column}, wanted text"
                 )
             }
             Problem::NoName(column) => {
-                let name = column.name();
-                write!(f, "found nothing in column {name}, wanted a name")
+                write!(f, "found nothing in column {column}, wanted a name")
             }
             Problem::NotNumber { column, found } => {
-                let name = column.name();
                 let most = column.most();
                 let or = if column.may_be_empty() {
                     ", or nothing"
@@ -107,7 +92,7 @@ impl fmt::Display for Told<'_> {
                 };
                 write!(
                     f,
-                    "found {found:?} in column {name}, wanted a whole number from 0 to {most}{or}"
+                    "found {found:?} in column {column}, wanted a whole number from 0 to {most}{or}"
                 )
             }
             Problem::NoCredit(member) => write!(

@@ -2,6 +2,7 @@
 ghost use Rattle.frontend.specs.Words.{Asks};
 
 use crate::messages::Message;
+use ledger::files::Input;
 use ledger::shown::Count;
 use std::alloc::{AllocError, Global};
 use std::fmt;
@@ -77,6 +78,15 @@ impl<'a> Source<'a> {
 pub(crate) struct Files<'a> {
     pub(crate) usage: Source<'a>,
     pub(crate) credits: Source<'a>,
+}
+
+impl<'a> Files<'a> {
+    pub(crate) fn source(self, input: Input) -> Source<'a> {
+        match input {
+            Input::Usage => self.usage,
+            Input::Credits => self.credits,
+        }
+    }
 }
 
 // What is asked for.

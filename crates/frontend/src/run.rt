@@ -36,15 +36,12 @@ fn read_source<'a>(rt: &HostRuntime, source: Source<'a>) -> Result<Vec<u8>, Mess
 
 // What is said where one of the two files is not taken.
 fn refusal<'a>(files: Files<'a>, bad: BadFile) -> Message<'a> {
-    let (source, line, problem) = match bad {
-        BadFile::Memory => return Message::Memory,
-        BadFile::Usage { line, problem } => (files.usage, line, problem),
-        BadFile::Credits { line, problem } => (files.credits, line, problem),
-    };
-    Message::BadInput {
-        file: source.name(),
-        line,
-        problem,
+    match bad {
+        BadFile::Memory => Message::Memory,
+        BadFile::Rejected { input, rejection } => Message::BadInput {
+            file: files.source(input).name(),
+            rejection,
+        },
     }
 }
 

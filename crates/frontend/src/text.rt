@@ -1,50 +1,45 @@
 // The books as text for people.
-ghost use Rattle.std.specs.Prelude.{◌≡◌, [], ◌∷◌, ◌++◌, map, IfOk, string_bytes};
-ghost use Rattle.reading.specs.Named.{names_of};
+ghost use Rattle.std.specs.Prelude.{◌≡◌, [], ◌∷◌, ◌++◌, map, IfOk, IfSome, string_bytes};
 ghost use Rattle.frontend.specs.Cells.{billed_text, left_text, listed, rateless_texts, spot_text, to_stop, why_text};
+ghost use Rattle.frontend.specs.Told.{written_or};
 
 use crate::grid::{Align, Grid};
-use ledger::accounts::{Account, Statement};
-use ledger::books::Books;
+use crate::told::{is_stopped, is_unrated};
+use ledger::books::{Books, Member};
 use ledger::shown::{Count, Escaped, Money, Spot};
 use std::alloc::{AllocError, Global};
+use std::fmt;
 use workshop::credit::Standing;
 
-const COLUMNS: [Align; 8] = [
-    Align::Left,
-    Align::Right,
-    Align::Right,
-    Align::Right,
-    Align::Right,
-    Align::Left,
-    Align::Left,
-    Align::Left,
+const COLUMNS: [(&str, Align); 8] = [
+    ("member", Align::Left),
+    ("records", Align::Right),
+    ("billed", Align::Right),
+    ("credit", Align::Right),
+    ("left", Align::Right),
+    ("credit ran out at", Align::Left),
+    ("first without a rate", Align::Left),
+    ("last without a rate", Align::Left),
 ];
 
-fn heading(heap: Global) -> Result<Vec<String>, AllocError> {
-    let mut row = Vec::new(heap);
-    for name in [
-        "member",
-        "records",
-        "billed",
-        "credit",
-        "left",
-        "credit ran out at",
-        "first without a rate",
-        "last without a rate",
-    ] {
-        row.push(String::from_str(heap, name)?)?;
+// The value, or these words where there is none.
+fn text_or<T: fmt::Display + Copy>(
+    heap: Global,
+    value: Option<T>,
+    words: &str,
+) -> Result<String, AllocError>
+    ensures made { IfOk result (λ t. IfSome (written_or T.output value words.now) (λ text. string_bytes t ≡ text)) }
+{
+    match value {
+        Some(value) => value.to_string(heap),
+        None => String::from_str(heap, words),
     }
-    Ok(row)
 }
 
 fn billed(heap: Global, total: Option<u64>) -> Result<String, AllocError>
     ensures made { IfOk result (λ t. string_bytes t ≡ billed_text total) }
 {
-    match total {
-        Some(cents) => Money(cents).to_string(heap),
-        None => String::from_str(heap, "no total"),
-    }
+    text_or(heap, total.map(Money), "no total")
 }
 
 fn left(heap: Global, standing: Standing) -> Result<String, AllocError>
@@ -60,45 +55,32 @@ fn left(heap: Global, standing: Standing) -> Result<String, AllocError>
 fn spot(heap: Global, spot: Option<Spot<'_>>) -> Result<String, AllocError>
     ensures made { IfOk result (λ t. string_bytes t ≡ spot_text spot.entry) }
 {
-    match spot {
-        Some(spot) => spot.to_string(heap),
-        None => String::from_str(heap, "-"),
-    }
+    text_or(heap, spot, "-")
 }
 
-fn member_row(
-    heap: Global,
-    books: &Books,
-    name: &str,
-    credit: u64,
-    account: &Account,
-    said: Statement,
-) -> Result<Vec<String>, AllocError> {
-    let records = said.records;
-    let mut row = Vec::new(heap);
-    row.push(Escaped(name).to_string(heap)?)?;
-    row.push(records.to_string(heap)?)?;
-    row.push(billed(heap, said.total)?)?;
-    row.push(Money(credit).to_string(heap)?)?;
-    row.push(left(heap, said.standing)?)?;
-    row.push(spot(heap, books.spot_of(account, said.standing.ran_out()))?)?;
-    row.push(spot(heap, books.spot_of(account, said.first_missing))?)?;
-    row.push(spot(heap, books.spot_of(account, said.last_missing))?)?;
-    Ok(row)
+fn member_row(heap: Global, books: &Books, member: &Member) -> Result<[String; 8], AllocError> {
+    let Member {
+        credit,
+        account,
+        statement,
+    } = member;
+    Ok([
+        Escaped(credit.member.as_str()).to_string(heap)?,
+        statement.records.to_string(heap)?,
+        billed(heap, statement.total)?,
+        Money(credit.cents).to_string(heap)?,
+        left(heap, statement.standing)?,
+        spot(heap, books.spot_of(account, statement.standing.ran_out()))?,
+        spot(heap, books.spot_of(account, statement.first_missing))?,
+        spot(heap, books.spot_of(account, statement.last_missing))?,
+    ])
 }
 
-fn member_grid(heap: Global, books: &Books) -> Result<Grid, AllocError> {
-    let mut grid = Grid::new(heap, &COLUMNS)?;
-    grid.push(heading(heap)?)?;
-    for (k, name) in books.credits.members.list().iter().enumerate() {
-        let (Some(credit), Some(account), Some(said)) = (
-            books.credits.list.get(k),
-            books.accounts.get(k),
-            books.statements.get(k),
-        ) else {
-            continue;
-        };
-        grid.push(member_row(heap, books, name.as_str(), credit.cents, account, *said)?)?;
+fn member_grid(heap: Global, books: &Books) -> Result<Grid<8>, AllocError> {
+    let mut grid = Grid::new(heap, COLUMNS.map(|(_name, align)| align));
+    grid.push(COLUMNS.try_map(|(name, _align)| String::from_str(heap, name))?)?;
+    for member in &books.members {
+        grid.push(member_row(heap, books, member)?)?;
     }
     Ok(grid)
 }
@@ -107,15 +89,12 @@ fn member_grid(heap: Global, books: &Books) -> Result<Grid, AllocError> {
 fn no_total(heap: Global, first: Option<Spot<'_>>) -> Result<String, AllocError>
     ensures made { IfOk result (λ t. string_bytes t ≡ why_text first.entry) }
 {
-    match first {
-        Some(spot) => spot.to_string(heap),
-        None => String::from_str(heap, "a sum above 18446744073709551615 cents"),
-    }
+    text_or(heap, first, "a sum above 18446744073709551615 cents")
 }
 
 fn log_line(heap: Global, books: &Books) -> Result<String, AllocError> {
-    let records = Count(books.log.entries.len(), "record");
-    let members = Count(books.credits.list.len(), "member");
+    let records = Count(books.entries.len(), "record");
+    let members = Count(books.members.len(), "member");
     match books.whole.total {
         Some(cents) => {
             let total = Money(cents);
@@ -130,88 +109,63 @@ fn log_line(heap: Global, books: &Books) -> Result<String, AllocError> {
 
 // A line that lists texts after a title.
 fn list_line(heap: Global, title: &str, texts: &[String]) -> Result<String, AllocError>
-    ensures made { IfOk result (λ t. string_bytes t ≡ title.now ++ (listed (map string_bytes texts.now) ++ (10 ∷ []))) }
+    ensures made { IfOk result (λ t. string_bytes t ≡ title.now ++ (listed texts.now ++ (10 ∷ []))) }
 {
-    let mut line = String::from_str(heap, title)?;
     if texts.is_empty() {
-        line.push_str(" none")?;
+        return format!(in heap; "{title} none\n");
     }
-    for (i, text) in texts.iter().enumerate() {
-        line.push_str(if i == 0 { " " } else { ", " })?;
-        line.push_str(text.as_str())?;
-    }
-    line.push_str("\n")?;
-    Ok(line)
+    let listed = texts.join(heap, ", ")?;
+    format!(in heap; "{title} {listed}\n")
 }
 
 fn tokens_to_stop(heap: Global, books: &Books) -> Result<Vec<String>, AllocError>
-    ensures made { IfOk result (λ t. map string_bytes t.items ≡ to_stop (names_of books.now.credits.members) books.now.statements.items) }
+    ensures made { IfOk result (λ t. map string_bytes t.items ≡ to_stop books.now.members.items) }
 {
-    let mut texts = Vec::new(heap);
-    for (name, said) in books
-        .credits
+    books
         .members
-        .list()
         .iter()
-        .zip(books.statements.iter())
-    {
-        if said.standing.ran_out().is_some() {
-            texts.push(Escaped(name.as_str()).to_string(heap)?)?;
-        }
-    }
-    Ok(texts)
+        .filter(|member| is_stopped(member))
+        .map(|member| Escaped(member.credit.member.as_str()).to_string(heap))
+        .try_collect(heap)
 }
 
 fn without_total(heap: Global, books: &Books) -> Result<Vec<String>, AllocError> {
-    let mut texts = Vec::new(heap);
-    for (k, name) in books.credits.members.list().iter().enumerate() {
-        let (Some(account), Some(said)) = (books.accounts.get(k), books.statements.get(k)) else {
-            continue;
-        };
-        if said.total.is_none() {
-            let name = Escaped(name.as_str());
-            let why = no_total(heap, books.spot_of(account, said.first_missing))?;
-            texts.push(format!(in heap; "{name} ({why})")?)?;
-        }
-    }
-    Ok(texts)
+    books
+        .members
+        .iter()
+        .filter(|member| member.statement.total.is_none())
+        .map(|member| {
+            let name = Escaped(member.credit.member.as_str());
+            let first = books.spot_of(&member.account, member.statement.first_missing);
+            let why = no_total(heap, first)?;
+            format!(in heap; "{name} ({why})")
+        })
+        .try_collect(heap)
 }
 
 fn without_rate(heap: Global, books: &Books) -> Result<Vec<String>, AllocError>
-    ensures made { IfOk result (λ t. map string_bytes t.items ≡ rateless_texts (names_of books.now.log.machines) books.now.rateless.items) }
+    ensures made { IfOk result (λ t. map string_bytes t.items ≡ rateless_texts books.now.machines.items) }
 {
-    let mut texts = Vec::new(heap);
-    for (name, n) in books.log.machines.list().iter().zip(books.rateless.iter()) {
-        if *n > 0 {
-            let name = Escaped(name.as_str());
-            let records = Count(*n, "record");
-            texts.push(format!(in heap; "{name} ({records})")?)?;
-        }
-    }
-    Ok(texts)
+    books
+        .machines
+        .iter()
+        .filter(|machine| is_unrated(machine))
+        .map(|machine| {
+            let name = Escaped(machine.name.as_str());
+            let records = Count(machine.rateless, "record");
+            format!(in heap; "{name} ({records})")
+        })
+        .try_collect(heap)
 }
 
 pub fn page(heap: Global, books: &Books) -> Result<String, AllocError> {
-    let mut page = member_grid(heap, books)?.to_string(heap)?;
-    page.push_str("\n")?;
-    page.push_str(log_line(heap, books)?.as_str())?;
-    page.push_str(list_line(
-        heap,
-        "tokens to stop:",
-        tokens_to_stop(heap, books)?.as_slice(),
-    )?
-    .as_str())?;
-    page.push_str(list_line(
-        heap,
-        "members without a total:",
-        without_total(heap, books)?.as_slice(),
-    )?
-    .as_str())?;
-    page.push_str(list_line(
-        heap,
-        "machines without a rate:",
-        without_rate(heap, books)?.as_slice(),
-    )?
-    .as_str())?;
-    Ok(page)
+    let members = member_grid(heap, books)?;
+    let log = log_line(heap, books)?;
+    let stop = tokens_to_stop(heap, books)?;
+    let stop = list_line(heap, "tokens to stop:", stop.as_slice())?;
+    let no_total = without_total(heap, books)?;
+    let no_total = list_line(heap, "members without a total:", no_total.as_slice())?;
+    let no_rate = without_rate(heap, books)?;
+    let no_rate = list_line(heap, "machines without a rate:", no_rate.as_slice())?;
+    format!(in heap; "{members}\n{log}{stop}{no_total}{no_rate}")
 }

@@ -2,11 +2,10 @@
 // for each token to stop and one for each machine without a rate. Amounts are whole cents.
 ghost use Rattle.std.specs.Prelude.{◌≡◌, ◌++◌, Some, string_bytes, OnOk};
 ghost use Rattle.std.specs.Fmt.{WritesOnOk};
-ghost use Rattle.reading.specs.Named.{names_of};
 ghost use Rattle.frontend.specs.Lines.{Bare, kind_word, left_cents, line, number_field, rateless_lines, spot_fields, stop_lines};
 
-use ledger::accounts::{Account, Statement};
-use ledger::books::Books;
+use crate::told::{is_stopped, is_unrated};
+use ledger::books::{Books, Member};
 use ledger::shown::{Escaped, Spot};
 use std::alloc::{AllocError, Global};
 use std::fmt;
@@ -49,22 +48,6 @@ struct Values<'a> {
     ran_out: Option<Spot<'a>>,
     first_missing: Option<Spot<'a>>,
     last_missing: Option<Spot<'a>>,
-}
-
-fn empty<'a>(kind: Kind, name: &'a str) -> Values<'a>
-    ensures { Bare kind name.now result }
-{
-    Values {
-        kind,
-        name,
-        records: None,
-        billed: None,
-        credit: None,
-        left: None,
-        ran_out: None,
-        first_missing: None,
-        last_missing: None,
-    }
 }
 
 fn write_number<W: fmt::Write>(n: Option<u64>, f: &mut fmt::Formatter<W>) -> fmt::Result
@@ -117,83 +100,83 @@ fn left(standing: Standing) -> Option<u64>
     }
 }
 
-fn member_line<'a>(
-    heap: Global,
-    books: &'a Books,
-    name: &'a str,
-    credit: u64,
-    account: &Account,
-    said: Statement,
-) -> Result<String, AllocError> {
-    let values = Values {
-        kind: Kind::Member,
-        name,
-        records: Some(said.records as u64),
-        billed: said.total,
-        credit: Some(credit),
-        left: left(said.standing),
-        ran_out: books.spot_of(account, said.standing.ran_out()),
-        first_missing: books.spot_of(account, said.first_missing),
-        last_missing: books.spot_of(account, said.last_missing),
-    };
-    values.to_string(heap)
-}
+impl<'a> Values<'a> {
+    fn bare(kind: Kind, name: &'a str) -> Values<'a>
+        ensures { Bare kind name.now result }
+    {
+        Values {
+            kind,
+            name,
+            records: None,
+            billed: None,
+            credit: None,
+            left: None,
+            ran_out: None,
+            first_missing: None,
+            last_missing: None,
+        }
+    }
 
-fn log_line(heap: Global, books: &Books) -> Result<String, AllocError> {
-    let mut values = empty(Kind::Log, "");
-    values.records = Some(books.log.entries.len() as u64);
-    values.billed = books.whole.total;
-    values.first_missing = books.spot(books.whole.first_missing);
-    values.last_missing = books.spot(books.whole.last_missing);
-    values.to_string(heap)
-}
-
-fn push_members(heap: Global, books: &Books, page: &mut String) -> Result<(), AllocError> {
-    for (k, name) in books.credits.members.list().iter().enumerate() {
-        let (Some(credit), Some(account), Some(said)) = (
-            books.credits.list.get(k),
-            books.accounts.get(k),
-            books.statements.get(k),
-        ) else {
-            continue;
-        };
-        page.push_str(member_line(
-            heap,
-            books,
-            name.as_str(),
-            credit.cents,
+    fn of_member(books: &'a Books, member: &'a Member) -> Values<'a> {
+        let Member {
+            credit,
             account,
-            *said,
-        )?.as_str())?;
+            statement,
+        } = member;
+        Values {
+            kind: Kind::Member,
+            name: credit.member.as_str(),
+            records: Some(statement.records as u64),
+            billed: statement.total,
+            credit: Some(credit.cents),
+            left: left(statement.standing),
+            ran_out: books.spot_of(account, statement.standing.ran_out()),
+            first_missing: books.spot_of(account, statement.first_missing),
+            last_missing: books.spot_of(account, statement.last_missing),
+        }
+    }
+
+    fn of_log(books: &'a Books) -> Values<'a> {
+        Values {
+            records: Some(books.entries.len() as u64),
+            billed: books.whole.total,
+            first_missing: books.spot(books.whole.first_missing),
+            last_missing: books.spot(books.whole.last_missing),
+            ..Values::bare(Kind::Log, "")
+        }
+    }
+}
+
+fn push_members(books: &Books, page: &mut String) -> Result<(), AllocError> {
+    for member in &books.members {
+        let values = Values::of_member(books, member);
+        write!(page, "{values}")?;
     }
     Ok(())
 }
 
-fn push_stops(heap: Global, books: &Books, page: &mut String) -> Result<(), AllocError>
-    ensures made { OnOk result (string_bytes page.new ≡ string_bytes page.old ++ stop_lines (names_of books.now.credits.members) books.now.statements.items) }
+fn push_stops(books: &Books, page: &mut String) -> Result<(), AllocError>
+    ensures made { OnOk result (string_bytes page.new ≡ string_bytes page.old ++ stop_lines books.now.members.items) }
 {
-    for (name, said) in books
-        .credits
-        .members
-        .list()
-        .iter()
-        .zip(books.statements.iter())
-    {
-        if said.standing.ran_out().is_some() {
-            page.push_str(empty(Kind::Stop, name.as_str()).to_string(heap)?.as_str())?;
+    for member in &books.members {
+        if is_stopped(member) {
+            let values = Values::bare(Kind::Stop, member.credit.member.as_str());
+            write!(page, "{values}")?;
         }
     }
     Ok(())
 }
 
-fn push_rateless(heap: Global, books: &Books, page: &mut String) -> Result<(), AllocError>
-    ensures made { OnOk result (string_bytes page.new ≡ string_bytes page.old ++ rateless_lines (names_of books.now.log.machines) books.now.rateless.items) }
+fn push_rateless(books: &Books, page: &mut String) -> Result<(), AllocError>
+    ensures made { OnOk result (string_bytes page.new ≡ string_bytes page.old ++ rateless_lines books.now.machines.items) }
 {
-    for (name, n) in books.log.machines.list().iter().zip(books.rateless.iter()) {
-        if *n > 0 {
-            let mut values = empty(Kind::NoRate, name.as_str());
-            values.records = Some(*n as u64);
-            page.push_str(values.to_string(heap)?.as_str())?;
+    for machine in &books.machines {
+        if is_unrated(machine) {
+            let values = Values {
+                records: Some(machine.rateless as u64),
+                ..Values::bare(Kind::NoRate, machine.name.as_str())
+            };
+            write!(page, "{values}")?;
         }
     }
     Ok(())
@@ -201,9 +184,10 @@ fn push_rateless(heap: Global, books: &Books, page: &mut String) -> Result<(), A
 
 pub fn page(heap: Global, books: &Books) -> Result<String, AllocError> {
     let mut page = String::from_str(heap, HEADING)?;
-    push_members(heap, books, &mut page)?;
-    page.push_str(log_line(heap, books)?.as_str())?;
-    push_stops(heap, books, &mut page)?;
-    push_rateless(heap, books, &mut page)?;
+    push_members(books, &mut page)?;
+    let values = Values::of_log(books);
+    write!(&mut page, "{values}")?;
+    push_stops(books, &mut page)?;
+    push_rateless(books, &mut page)?;
     Ok(page)
 }

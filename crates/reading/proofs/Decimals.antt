@@ -5,7 +5,7 @@ use Rattle.std.proofs.lemmas.Int.Digits.{number_more, number_after_append, numbe
 use Rattle.std.proofs.ByRecursion.{All-get_or}
 use Rattle.std.proofs.lemmas.List.{get_or-map, length-map, map-append, take-append-drop, take-map}
 use Rattle.reading.specs.Numbers.{Digit, decimal}
-use Rattle.reading.specs.Parts.{WrittenUpTo}
+use Rattle.reading.specs.Fields.{WrittenUpTo}
 
 abbrev digit_of : ℕ → ℕ
 digit_of b = b - 48

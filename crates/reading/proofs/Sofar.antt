@@ -1,19 +1,17 @@
 -- What has been read of a file so far. Assumes nothing.
-use Rattle.std.proofs.Common.{◌≡◌, ℕ, ◌<◌, List, [], ◌∷◌, ◌++◌, map, length, get_or, vec_items, Vec, sym, ap, ◌∙◌, subst, inl, inr, ⊎_elim, append_assoc, arith}
+use Rattle.std.proofs.Common.{◌≡◌, ℕ, ◌<◌, List, [], ◌∷◌, ◌++◌, map, length, get_or, sym, ap, ◌∙◌, subst, inl, inr, ⊎_elim, append_assoc, arith}
 use Rattle.std.proofs.lemmas.List.{get_or_append_left, get_or_push, length-map, length_push, map_push}
 use Rattle.std.proofs.lemmas.Bool.{cases_lt}
-use Rattle.std.specs.declared.alloc.Global.{Global}
 use Rattle.reading.specs.declared.credits.Credit.{Credit}
-use Rattle.reading.specs.declared.credits.Credits.{Credits}
 use Rattle.reading.specs.declared.log.Entry.{Entry}
-use Rattle.reading.specs.declared.log.Log.{Log}
-use Rattle.reading.specs.declared.names.Names.{Names}
 use Rattle.reading.specs.declared.table.Line.{Line}
 use Rattle.reading.specs.declared.table.Table.{Table}
-use Rattle.reading.specs.Books.{Pairwise, EntryOf, Used, MemberOf, CreditOf}
-use Rattle.reading.specs.Named.{names_of, NamedAt, Sound}
+use Rattle.reading.specs.Books.{Pairwise, EntryOf, Used, CreditOf}
+use Rattle.reading.specs.Named.{NamedAt}
 use Rattle.reading.specs.Tables.{TableOf}
-use Rattle.reading.specs.Parts.{fields_of, Grew, EntryRead, CreditAdded, Holds, Step}
+use Rattle.reading.specs.Fields.{fields_of}
+use Rattle.reading.specs.Left.{Holds, Step}
+use Rattle.reading.specs.Parts.{Grew, EntryRead}
 use Rattle.reading.proofs.Listing.{named_before}
 use Rattle.reading.proofs.Pairs.{pairwise_push, pairwise_weaker}
 
@@ -73,43 +71,34 @@ used_more old new entries entry grew used = by grew
         (cases_lt k (length old))
 
 -- the log has what the lines seen say
-pub record LogSofar (text : List ℕ) (header members : List (List ℕ)) (table : Table) (log : Log) : Type 0 where
+pub record LogSofar (text : List ℕ) (header members : List (List ℕ)) (table : Table) (entries : List Entry) (machines : List (List ℕ)) : Type 0 where
   pub seen : List (ℕ × List (List ℕ))
   pub left : Seen text header seen table
-  pub entries : Pairwise (EntryOf header members (names_of log.machines)) seen (vec_items log.entries)
-  pub machines : Sound log.machines
-  pub used : Used (length (names_of log.machines)) (vec_items log.entries)
+  pub said : Pairwise (EntryOf header members machines) seen entries
+  pub used : Used (length machines) entries
 
 -- one line more
-pub one_entry : {text : List ℕ} {header members : List (List ℕ)} {table : Table} {log : Log} {new : Table} {line : Line} {entries : Vec Entry Global} {machines : Names} {entry : Entry} → LogSofar text header members table log → Step table new line → EntryRead header members log.machines machines line entry → vec_items entries ≡ vec_items log.entries ++ entry ∷ [] → LogSofar text header members new (record { entries = entries; machines = machines })
-one_entry {text} {header} {members} {table} {log} {new} {line} {entries} {machines} {entry} old step one pushed =
-    let before = names_of log.machines in
-    let after = names_of machines in
-    let es = vec_items log.entries in
-    let said = pairwise_weaker _ (EntryOf header members after) (entry_kept before after entry.machine one.grew) old.seen es old.entries in
+pub one_entry : {text : List ℕ} {header members : List (List ℕ)} {table new : Table} {es entries : List Entry} {before after : List (List ℕ)} {line : Line} {entry : Entry} → LogSofar text header members table es before → Step table new line → EntryRead header members before after line entry → entries ≡ es ++ entry ∷ [] → LogSofar text header members new entries after
+one_entry {text} {header} {members} {table} {new} {es} {entries} {before} {after} {line} {entry} old step one pushed =
+    let said = pairwise_weaker _ (EntryOf header members after) (entry_kept before after entry.machine one.grew) old.seen es old.said in
     record {
       seen = old.seen ++ (line.number, fields_of line) ∷ [];
       left = seen_more old.seen table new (line.number, fields_of line) old.left step.first;
-      entries = subst (Pairwise (EntryOf header members after) (old.seen ++ (line.number, fields_of line) ∷ [])) (sym pushed) (pairwise_push (EntryOf header members after) old.seen es said one.says);
-      machines = one.sound;
+      said = subst (Pairwise (EntryOf header members after) (old.seen ++ (line.number, fields_of line) ∷ [])) (sym pushed) (pairwise_push (EntryOf header members after) old.seen es said one.says);
       used = subst (Used (length after)) (sym pushed) (used_more before after es entry one.grew old.used);
     }
 
 -- the credits have what the lines seen say
-pub record CreditsSofar (text : List ℕ) (header : List (List ℕ)) (table : Table) (credits : Credits) : Type 0 where
+pub record CreditsSofar (text : List ℕ) (header : List (List ℕ)) (table : Table) (credits : List Credit) : Type 0 where
   pub seen : List (ℕ × List (List ℕ))
   pub left : Seen text header seen table
-  pub members : Pairwise (MemberOf header) seen (names_of credits.members)
-  pub list : Pairwise (CreditOf header) seen (vec_items credits.list)
-  pub sound : Sound credits.members
+  pub list : Pairwise (CreditOf header) seen credits
 
-pub one_credit : {text : List ℕ} {header : List (List ℕ)} {table : Table} {old new : Credits} {later : Table} {line : Line} {member : List ℕ} {credit : Credit} → CreditsSofar text header table old → Step table later line → CreditAdded old new member credit → MemberOf header (line.number, fields_of line) member → CreditOf header (line.number, fields_of line) credit → CreditsSofar text header later new
-one_credit {text} {header} {table} {old} {new} {later} {line} {member} {credit} sofar step added who what =
+pub one_credit : {text : List ℕ} {header : List (List ℕ)} {table later : Table} {old new : List Credit} {line : Line} {credit : Credit} → CreditsSofar text header table old → Step table later line → new ≡ old ++ credit ∷ [] → CreditOf header (line.number, fields_of line) credit → CreditsSofar text header later new
+one_credit {text} {header} {table} {later} {old} {new} {line} {credit} sofar step added what =
     let l : ℕ × List (List ℕ) = (line.number, fields_of line) in
     record {
       seen = sofar.seen ++ l ∷ [];
       left = seen_more sofar.seen table later l sofar.left step.first;
-      members = subst (Pairwise (MemberOf header) (sofar.seen ++ l ∷ [])) (sym added.members) (pairwise_push (MemberOf header) sofar.seen (names_of old.members) sofar.members who);
-      list = subst (Pairwise (CreditOf header) (sofar.seen ++ l ∷ [])) (sym added.list) (pairwise_push (CreditOf header) sofar.seen (vec_items old.list) sofar.list what);
-      sound = added.sound;
+      list = subst (Pairwise (CreditOf header) (sofar.seen ++ l ∷ [])) (sym added) (pairwise_push (CreditOf header) sofar.seen old sofar.list what);
     }

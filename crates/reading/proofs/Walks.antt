@@ -1,5 +1,5 @@
 -- Rows read one after another, and the lines on which they stand. Assumes nothing.
-use Rattle.std.proofs.Common.{◌≡◌, ℕ, ◌+◌, ◌-◌, ◌^◌, ◌<◌, ◌≤◌, min, cond, eqb, List, [], ◌∷◌, ◌++◌, length, take, drop, Err, vec_items, vec_len, sym, refl, ap, ◌∙◌, subst, inl, inr, arith, Bor}
+use Rattle.std.proofs.Common.{◌≡◌, ℕ, ◌+◌, ◌-◌, ◌^◌, ◌<◌, ◌≤◌, min, cond, eqb, List, [], ◌∷◌, ◌++◌, length, take, drop, Err, vec_items, vec_len, sym, ap, ◌∙◌, subst, inl, inr, arith}
 use Rattle.std.proofs.lemmas.List.{drop_all, drop-take, length-drop, length-map, length-take, take-append-drop, take-take}
 use Rattle.std.proofs.lemmas.List.Sums.{count_by-le-length, sum_by-append}
 use Rattle.csv_rows.specs.Grammar.{RowOf, count_of}
@@ -8,8 +8,8 @@ use Rattle.csv_rows.specs.declared.Row.{Row}
 use Rattle.reading.specs.declared.failure.Failure.{Failure}
 use Rattle.reading.specs.declared.failure.Failure.TheVariants.{Memory, Rejected}
 use Rattle.reading.specs.declared.table.Table.{Table}
-use Rattle.reading.specs.Tables.{Lines, end, blank, more, feeds, HasLine, OnLine, Begins}
-use Rattle.reading.specs.Parts.{RowOk, Placed, Opened}
+use Rattle.reading.specs.Tables.{Lines, TableOf, end, blank, more, feeds, HasLine, OnLine, Begins}
+use Rattle.reading.specs.Fields.{RowOk}
 
 -- the line on which the place at of text stands
 abbrev pub line_at : List ℕ → ℕ → ℕ
@@ -74,40 +74,31 @@ no_lines width n at text le = subst (λ s. Lines width n s []) (sym (drop_all at
 -- where a row is refused, the text has its line
 pub on_line : (text : List ℕ) (at : ℕ) (e : Failure) → RowOk text at (Err e) → OnLine text e
 on_line text at Memory h = tt
-on_line text at (Rejected n problem) h = subst (HasLine text) (sym h.4) (has_line_at text h.1)
+on_line text at (Rejected r) h = subst (HasLine text) (sym h.4) (has_line_at text h.1)
 
-pub table_line : {table : Table} → Placed table → HasLine table.text.now table.line
-table_line {table} placed = subst (HasLine table.text.now) (sym placed.line) (has_line_at table.text.now table.at)
-
--- a table past its next row
-abbrev pub past : Table → Row → ℕ → Table
-past table row m = record { text = table.text; at = row.next; line = m; width = table.width }
-
-pub placed_past : (table : Table) {row : Row} (found : RowAt table.text.now table.at row) (m : ℕ) → Placed table → m ≡ min (table.line + row.lines) (2 ^ 64 - 1) → Placed (past table row m)
-placed_past table found m placed to = record {
-  short = placed.short;
-  within = found.within;
-  line = below_row found placed.short table.line m placed.line to;
-}
+pub table_line : (table : Table) → HasLine table.text.now table.line
+table_line table = subst (HasLine table.text.now) (sym table.stands) (has_line_at table.text.now table.at)
 
 -- the mark has no line feed
 first_line : (text : List ℕ) (start : ℕ) → Begins text start → 1 ≡ line_at text start
 first_line text start (inl h) = ap (λ s. 1 + count_of 10 s) (sym (ap (λ n. take n text) h.0 ∙ ap (take 3) h.1.1))
 first_line text start (inr h) = ap (λ n. line_at text n) (sym h.0)
 
-pub opened : (text : Bor (List ℕ)) {start : ℕ} {header : Row} (n width : ℕ) → Begins text.now start → RowAt text.now start header → length text.now < 2 ^ 63 → n ≡ min (header.lines + 1) (2 ^ 64 - 1) → width ≡ vec_len header.fields → Opened text.now header (record { text = text; at = header.next; line = n; width = width })
-opened text {start} {header} n width begins found short to wide =
-    let here = first_line text.now start begins in
-    let next : n ≡ min (1 + header.lines) (2 ^ 64 - 1) = omega arith in
-    let fields : width ≡ length (cells header) = wide ∙ header.fields.ok.0 ∙ sym (length-map (vec_items header.fields) vec_items) in
-    record {
-      same = refl;
-      placed = record { short = short; within = found.within; line = below_row found short 1 n here next };
-      below = λ ls h. record {
+-- what stands below the header, which stands at start and ends on the line before n
+module _ (text : List ℕ) {start : ℕ} {header : Row} (n : ℕ) (begins : Begins text start) (found : RowAt text start header) (short : length text < 2 ^ 63) (to : n ≡ min (header.lines + 1) (2 ^ 64 - 1)) where
+  from_first : n ≡ min (1 + header.lines) (2 ^ 64 - 1)
+  from_first = omega arith
+
+  pub stands_below : n ≡ line_at text header.next
+  stands_below = below_row found short 1 n (first_line text start begins) from_first
+
+  pub table_below : (width : ℕ) → width ≡ vec_len header.fields → (ls : List (ℕ × List (List ℕ))) → Lines width n (drop header.next text) ls → TableOf text (cells header) ls
+  table_below width wide ls h =
+      let fields : width ≡ length (cells header) = wide ∙ header.fields.ok.0 ∙ sym (length-map (vec_items header.fields) vec_items) in
+      record {
         start = start;
         begins = begins;
-        rest = drop header.next text.now;
+        rest = drop header.next text;
         top = found.fields;
-        below = subst (λ w. Lines w (1 + feeds (drop start text.now) (drop header.next text.now)) (drop header.next text.now) ls) fields (rest_below found short 1 n here next width h);
-      };
-    }
+        below = subst (λ w. Lines w (1 + feeds (drop start text) (drop header.next text)) (drop header.next text) ls) fields (rest_below found short 1 n (first_line text start begins) from_first width h);
+      }

@@ -1,11 +1,10 @@
 -- What the two files say. Assumes nothing.
-use Rattle.std.specs.Prelude.{◌≡◌, ℕ, ◌<◌, ◌⊎◌, List, [], ◌∷◌, map, length, Some, None, vec_items, Option, slice_index}
+use Rattle.std.specs.Prelude.{◌≡◌, ℕ, ◌<◌, ◌⊎◌, List, [], ◌∷◌, map, length, Some, None, vec_items, string_bytes, Option, slice_index}
 use Rattle.reading.specs.declared.credits.Credit.{Credit}
-use Rattle.reading.specs.declared.credits.Credits.{Credits}
 use Rattle.reading.specs.declared.failure.Column.TheVariants.{Member, Machine, Start, Minutes, Rate, Cents}
 use Rattle.reading.specs.declared.log.Entry.{Entry}
 use Rattle.reading.specs.declared.log.Log.{Log}
-use Rattle.reading.specs.Named.{names_of, NamedAt, Sound}
+use Rattle.reading.specs.Named.{NamedAt, Distinct}
 use Rattle.reading.specs.Numbers.{Writes}
 use Rattle.reading.specs.Tables.{TableOf, Under}
 
@@ -47,24 +46,24 @@ pub record LogOf (text : List ℕ) (members : List (List ℕ)) (log : Log) : Typ
   pub header : List (List ℕ)
   pub lines : List (ℕ × List (List ℕ))
   pub table : TableOf text header lines
-  pub entries : Pairwise (EntryOf header members (names_of log.machines)) lines (vec_items log.entries)
-  pub machines : Sound log.machines
-  pub used : Used (length (names_of log.machines)) (vec_items log.entries)
+  pub entries : Pairwise (EntryOf header members (map string_bytes log.machines)) lines (vec_items log.entries)
+  pub machines : Distinct (map string_bytes log.machines)
+  pub used : Used (length log.machines) (vec_items log.entries)
+
+-- the members of the credits
+abbrev pub members_of : List Credit → List (List ℕ)
+members_of credits = map (λ c. string_bytes c.member) credits
 
 -- credit is what a line of the credits says
 pub record CreditOf (header : List (List ℕ)) (line : ℕ × List (List ℕ)) (credit : Credit) : Type 0 where
   pub number : credit.line ≡ line.0
+  pub member : Under header line.1 Member (λ field. (field ≡ string_bytes credit.member) × (0 < length field))
   pub cents : Under header line.1 Cents (λ field. Writes field credit.cents)
 
--- name is the member of a line
-abbrev pub MemberOf : List (List ℕ) → ℕ × List (List ℕ) → List ℕ → Type 0
-MemberOf header line name = Under header line.1 Member (λ field. (field ≡ name) × (0 < length field))
-
--- credits is what text says: a member and a credit for each of its lines, and no member twice
-pub record CreditsOf (text : List ℕ) (credits : Credits) : Type 0 where
+-- credits is what text says: a credit for each of its lines, and no member twice
+pub record CreditsOf (text : List ℕ) (credits : List Credit) : Type 0 where
   pub header : List (List ℕ)
   pub lines : List (ℕ × List (List ℕ))
   pub table : TableOf text header lines
-  pub members : Pairwise (MemberOf header) lines (names_of credits.members)
-  pub list : Pairwise (CreditOf header) lines (vec_items credits.list)
-  pub sound : Sound credits.members
+  pub list : Pairwise (CreditOf header) lines credits
+  pub members : Distinct (members_of credits)

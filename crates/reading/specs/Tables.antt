@@ -51,4 +51,4 @@ HasLine text n = (1 ≤ n) × (n ≤ 1 + count_of 10 text)
 -- where a line is rejected, text has it
 abbrev pub OnLine : List ℕ → Failure → Type 0
 OnLine text Memory = Unit {0}
-OnLine text (Rejected n problem) = HasLine text n
+OnLine text (Rejected r) = HasLine text r.line

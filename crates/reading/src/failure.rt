@@ -1,9 +1,10 @@
-ghost use Rattle.std.specs.Prelude.{◌≡◌};
+ghost use Rattle.std.specs.Prelude.{◌≡◌, Some};
 ghost use Rattle.reading.specs.Columns.{name_of, most_of, optional};
-ghost use Rattle.reading.specs.declared.failure.Failure.TheVariants.{Memory};
+ghost use Rattle.reading.specs.declared.failure.Failure.TheVariants.{Memory, Rejected};
 
 use csv_rows::Fault;
 use std::alloc::{AllocError, AllocFailed};
+use std::fmt;
 
 // A column of one of the two files.
 #[derive(Clone, Copy)]
@@ -52,6 +53,14 @@ impl Column {
     }
 }
 
+impl fmt::Display for Column {
+    ghost output = { λ c. Some (name_of c) };
+
+    fn fmt<W: fmt::Write>(&self, f: &mut fmt::Formatter<W>) -> fmt::Result {
+        f.write_str(self.name())
+    }
+}
+
 // What is wrong with a line.
 #[derive(Drop)]
 pub enum Problem {
@@ -67,11 +76,26 @@ pub enum Problem {
     CreditTwice { member: String, first: usize },
 }
 
+// A line that is not taken, and what is wrong with it.
+#[derive(Drop)]
+pub struct Rejection {
+    pub line: usize,
+    pub problem: Problem,
+}
+
 // Why a file is not taken.
 #[derive(Drop)]
 pub enum Failure {
     Memory,
-    Rejected { line: usize, problem: Problem },
+    Rejected(Rejection),
+}
+
+impl From<Rejection> for Failure {
+    ghost from_gives = { λ e r. r ≡ Rejected e };
+
+    fn from(e: Rejection) -> Failure {
+        Failure::Rejected(e)
+    }
 }
 
 impl From<AllocError> for Failure {

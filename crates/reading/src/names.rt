@@ -1,21 +1,51 @@
-ghost use Rattle.std.specs.Prelude.{◌≡◌, [], IfOk};
-ghost use Rattle.reading.specs.Named.{names_of, Sound};
-ghost use Rattle.reading.specs.Parts.{Lacks, PlaceOf, Grown};
+ghost use Rattle.std.specs.Prelude.{◌≡◌, ℕ, List, [], map, IfOk, OnOk};
+ghost use Rattle.reading.specs.Named.{PlaceOf, Added, Distinct};
 
 use std::alloc::{AllocError, Global};
 use std::collections::BTreeMap;
+use std::marker::Model;
 
-// Names in the order in which they were added, each once, and a way to find their places.
+// What has a name.
+pub trait Named: Drop {
+    ghost name: { Self → List ℕ };
+
+    fn name(&self) -> &str
+        ensures { result.now ≡ name self.now };
+}
+
+impl Named for String {
+    ghost use Rattle.std.specs.Prelude.{string_bytes};
+
+    ghost name = { string_bytes };
+
+    fn name(&self) -> &str {
+        self.as_str()
+    }
+}
+
+// Things in the order in which they were added, each under a name of its own, and a way to find
+// their places.
 #[derive(Drop)]
-pub struct Names {
-    list: Vec<String>,
+pub struct Names<T: Named> {
+    list: Vec<T>,
     places: BTreeMap<String, usize>,
 }
 
-impl Names {
-    pub(crate) fn new(heap: Global) -> Names
-        ensures value { names_of result ≡ [] }
-        ensures sound { Sound result }
+impl<T: Named> Model for Names<T> {
+    ghost use Rattle.std.specs.Prelude.{List, map};
+
+    ghost Value = { List T };
+
+    ghost use Rattle.reading.specs.Named.{Tells};
+
+    ghost view = { λ n. n.list.items };
+
+    ghost invariant = { λ n. Tells n.places (map T.name n.list.items) };
+}
+
+impl<T: Named> Names<T> {
+    pub(crate) fn new(heap: Global) -> Names<T>
+        ensures { result ≡ [] }
     {
         Names {
             list: Vec::new(heap),
@@ -23,25 +53,42 @@ impl Names {
         }
     }
 
-    pub fn list(&self) -> &[String]
-        ensures value { result.now ≡ self.now.list.items }
+    pub fn list(&self) -> &[T]
+        ensures { result.now ≡ self.now }
     {
         self.list.as_slice()
     }
 
+    pub fn into_list(self) -> Vec<T>
+        ensures { result.items ≡ self }
+    {
+        let Names { list, .. } = self;
+        list
+    }
+
+    // Where a name stands, if it is there.
     pub(crate) fn find(&self, name: &str) -> Option<usize>
-        ensures cases { Sound self.now → PlaceOf (names_of self.now) name.now result }
+        ensures place { PlaceOf (map T.name self.now) name.now result }
+        ensures distinct { Distinct (map T.name self.now) }
     {
         self.places.get(name).copied()
     }
 
-    // Adds a name that is not there yet, and tells its place.
-    pub(crate) fn add(&mut self, heap: Global, name: &str) -> Result<usize, AllocError>
-        ensures after { Sound self.old → Lacks (names_of self.old) name.now → IfOk result (λ k. Grown self.old self.new name.now k) }
+    // Adds a thing at the end, unless its name is there already: then its place is told.
+    pub(crate) fn add(&mut self, heap: Global, item: T) -> Result<Option<usize>, AllocError>
+        ensures added { IfOk result (λ there. Added T.name self.old self.new item there) }
+        ensures distinct { OnOk result (Distinct (map T.name self.new)) }
     {
+        if let Some(place) = self.places.get(item.name()).copied() {
+            return Ok(Some(place));
+        }
+        let name = String::from_str(heap, item.name())?;
         let place = self.list.len();
-        self.places.insert(String::from_str(heap, name)?, place)?;
-        self.list.push(String::from_str(heap, name)?)?;
-        Ok(place)
+        self.list.push(item)?;
+        if let Err(e) = self.places.insert(name, place) {
+            self.list.truncate(place);
+            return Err(AllocError::from(e));
+        }
+        Ok(None)
     }
 }

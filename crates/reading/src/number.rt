@@ -1,4 +1,4 @@
-ghost use Rattle.reading.specs.Parts.{WrittenUpTo};
+ghost use Rattle.reading.specs.Fields.{WrittenUpTo};
 
 // The number that a field writes in decimal digits, if it is at most `most`.
 pub(crate) fn number(field: &[u8], most: u64) -> Option<u64>

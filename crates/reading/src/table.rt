@@ -1,9 +1,9 @@
-ghost use Rattle.std.specs.Prelude.{◌≡◌, [], ◌∷◌, IfOk, Decides};
+ghost use Rattle.std.specs.Prelude.{◌≡◌, ◌+◌, ◌^◌, ◌<◌, ◌≤◌, [], ◌∷◌, length, take, IfOk, Decides};
+ghost use Rattle.csv_rows.specs.Grammar.{count_of};
 ghost use Rattle.csv_rows.specs.Reads.{cells};
-ghost use Rattle.reading.specs.declared.failure.Failure.TheVariants.{Rejected};
-ghost use Rattle.reading.specs.Parts.{field_of, NameIn, NumberIn, Placed, RowOk, OpenOk, ReadFrom, PlaceIn, Shows};
+ghost use Rattle.reading.specs.Fields.{field_of, NameIn, NumberIn, PlaceIn, RowOk, Shows};
 
-use crate::failure::{Column, Failure, Problem};
+use crate::failure::{Column, Failure, Problem, Rejection};
 use crate::number::number;
 use csv_rows::{ReadError, Row};
 use std::alloc::{AllocError, Global};
@@ -22,31 +22,28 @@ pub(crate) struct Table<'a> {
     at: usize,
     line: usize,
     width: usize,
-}
-
-fn rejected(line: usize, problem: Problem) -> Failure
-    ensures value { result ≡ Rejected line problem }
-{
-    Failure::Rejected { line, problem }
+    ghost short: { length text.now < 2 ^ 63 },
+    ghost within: { at ≤ length text.now },
+    ghost stands: { line ≡ 1 + count_of 10 (take at text.now) },
 }
 
 // The row that begins at a place, with what is wrong said by its line.
 fn row_at(heap: Global, text: &[u8], at: usize) -> Result<Option<Row>, Failure>
-    ensures cases { RowOk text.now at result }
+    ensures { RowOk text.now at result }
 {
     match csv_rows::read_row(heap, text, at) {
         Ok(row) => Ok(row),
         Err(ReadError::Memory) => Err(Failure::Memory),
-        Err(ReadError::Malformed { fault, at }) => Err(rejected(
-            csv_rows::line_of(text, at),
-            Problem::Malformed(fault),
-        )),
+        Err(ReadError::Malformed { fault, at }) => Err(Failure::Rejected(Rejection {
+            line: csv_rows::line_of(text, at),
+            problem: Problem::Malformed(fault),
+        })),
     }
 }
 
 // A line with nothing on it is passed over.
 fn is_blank(row: &Row) -> bool
-    ensures value { Decides result (cells row.now ≡ [] ∷ []) }
+    ensures { Decides result (cells row.now ≡ [] ∷ []) }
 {
     match row.fields.as_slice() {
         [only] => only.is_empty(),
@@ -55,12 +52,17 @@ fn is_blank(row: &Row) -> bool
 }
 
 impl<'a> Table<'a> {
+    ghost use Rattle.reading.specs.Left.{OpenOk, ReadFrom};
+
     // The header line, and what stands below it.
     pub(crate) fn open(heap: Global, text: &'a [u8]) -> Result<(Row, Table<'a>), Failure>
-        ensures cases { OpenOk text.now result }
+        ensures { OpenOk text.now result }
     {
         let Some(header) = row_at(heap, text, csv_rows::after_mark(text))? else {
-            return Err(rejected(1, Problem::NoHeader));
+            return Err(Failure::Rejected(Rejection {
+                line: 1,
+                problem: Problem::NoHeader,
+            }));
         };
         let at = header.next;
         let line = header.lines.saturating_add(1);
@@ -78,7 +80,6 @@ impl<'a> Table<'a> {
 
     // The next line that is not blank.
     pub(crate) fn read(&mut self, heap: Global) -> Result<Option<Line>, Failure>
-        requires { Placed self.old }
         ensures same { self.new.text.now ≡ self.old.text.now }
         ensures cases { ReadFrom self.old self.new result }
     {
@@ -91,8 +92,13 @@ impl<'a> Table<'a> {
             }
             let found = row.fields.len();
             if found != self.width {
-                let wanted = self.width;
-                return Err(rejected(number, Problem::FieldCount { found, wanted }));
+                return Err(Failure::Rejected(Rejection {
+                    line: number,
+                    problem: Problem::FieldCount {
+                        found,
+                        wanted: self.width,
+                    },
+                }));
             }
             let Row {
                 fields,
@@ -106,24 +112,31 @@ impl<'a> Table<'a> {
 }
 
 // Where a column stands, which the header names once.
-pub(crate) fn place(header: &Row, column: Column) -> Result<usize, Failure>
-    ensures cases { PlaceIn (cells header.now) column result }
+pub(crate) fn place(header: &Row, column: Column) -> Result<usize, Rejection>
+    ensures { PlaceIn (cells header.now) column result }
 {
     let name = column.name().as_bytes();
     let Some(i) = csv_rows::column(header, name) else {
-        return Err(rejected(1, Problem::MissingColumn(column)));
+        return Err(Rejection {
+            line: 1,
+            problem: Problem::MissingColumn(column),
+        });
     };
-    'fields: for (k, field) in header.fields.iter().enumerate() {
-        if k > i && field.as_slice() == name {
-            return Err(rejected(1, Problem::ColumnTwice(column)));
-        }
+    if header.fields[i + 1..]
+        .iter()
+        .any(|field| field.as_slice() == name)
+    {
+        return Err(Rejection {
+            line: 1,
+            problem: Problem::ColumnTwice(column),
+        });
     }
     Ok(i)
 }
 
 impl Line {
     fn field(&self, i: usize) -> &[u8]
-        ensures value { result.now ≡ field_of self.now i }
+        ensures { result.now ≡ field_of self.now i }
     {
         match self.fields.get(i) {
             Some(field) => field.as_slice(),
@@ -132,16 +145,22 @@ impl Line {
     }
 
     // The name that stands in a column.
-    pub(crate) fn name(&self, column: Column, i: usize) -> Result<&str, Failure>
-        ensures cases { NameIn self.now.number (field_of self.now i) column result }
+    pub(crate) fn name(&self, column: Column, i: usize) -> Result<&str, Rejection>
+        ensures { NameIn self.now.number (field_of self.now i) column result }
     {
         let field = self.field(i);
         if field.is_empty() {
-            return Err(rejected(self.number, Problem::NoName(column)));
+            return Err(Rejection {
+                line: self.number,
+                problem: Problem::NoName(column),
+            });
         }
         match std::str::from_utf8(field) {
             Ok(name) => Ok(name),
-            Err(_) => Err(rejected(self.number, Problem::NotText(column))),
+            Err(_) => Err(Rejection {
+                line: self.number,
+                problem: Problem::NotText(column),
+            }),
         }
     }
 
@@ -152,19 +171,20 @@ impl Line {
         column: Column,
         i: usize,
     ) -> Result<Option<u64>, Failure>
-        ensures cases { NumberIn self.now.number (field_of self.now i) column result }
+        ensures { NumberIn self.now.number (field_of self.now i) column result }
     {
         let field = self.field(i);
         if field.is_empty() && column.may_be_empty() {
             return Ok(None);
         }
-        match number(field, column.most()) {
-            Some(n) => Ok(Some(n)),
-            None => {
-                let found = shown(heap, field)?;
-                Err(rejected(self.number, Problem::NotNumber { column, found }))
-            }
-        }
+        let Some(n) = number(field, column.most()) else {
+            let found = shown(heap, field)?;
+            return Err(Failure::Rejected(Rejection {
+                line: self.number,
+                problem: Problem::NotNumber { column, found },
+            }));
+        };
+        Ok(Some(n))
     }
 }
 
@@ -172,7 +192,7 @@ impl Line {
 const SHOWN: usize = 60;
 
 fn shown(heap: Global, field: &[u8]) -> Result<String, AllocError>
-    ensures made { IfOk result (λ s. Shows field.now s) }
+    ensures { IfOk result (λ s. Shows field.now s) }
 {
     let end = field.len().min(SHOWN);
     String::from_utf8_lossy(heap, &field[0..end])

@@ -1,26 +1,15 @@
-use Rattle.std.proofs.Common.{[], ◌∷◌, ◌++◌, map, vec_items, string_bytes, codes, refl, ap, ◌∙◌}
-use Rattle.std.proofs.lemmas.Slice.Zip.{Zip-more, either_empty_from_Zip}
-use Rattle.std.proofs.lemmas.Slice.{pushed}
-use Rattle.std.proofs.lemmas.Bool.{lt-ltb, le-ltb}
-use Rattle.ledger.specs.Written.{counted, escaped}
+use Rattle.std.proofs.Common.{rules}
+use Rattle.std.proofs.lemmas.Iterator.{YieldsList-from_slice}
+use Rattle.std.proofs.lemmas.Iterator.Consumers.{YieldsList-from_filter, YieldsList-at}
 use Rattle.frontend.specs.Cells.{rateless_text}
-use Rattle.frontend.proofs.Gathers.{gives_more, gives_all, left_out, taken_in, one_more}
+use Rattle.frontend.specs.Told.{unrated}
+use Rattle.frontend.proofs.Collects.{texts_from_try_collect}
 use Rattle.frontend.proofs.text.without_rate.Goals as goal
-
-pub loop-name-preserved : goal.loop-name-preserved
-loop-name-preserved c =
-    let turn = Zip-more c.loop-name.name-iterator c.next.new.self c.next.result (c.in-Some.name, c.in-Some.n) c.in-Some.is c.next.ensures.steps in
-    gives_more string_bytes rateless_text _ _ c.in-Some.name.now c.in-Some.n.now _ _ _ _ turn (left_out _ _ _ (le-ltb 0 _ c.if-n-gt0.false)) c.loop-name.invariant
-
-pub loop-name-preserved-in_ok-push : goal.loop-name-preserved-in_ok-push
-loop-name-preserved-in_ok-push c =
-    let turn = Zip-more c.loop-name.name-iterator c.next.new.self c.next.result (c.in-Some.name, c.in-Some.n) c.in-Some.is c.next.ensures.steps in
-    let old = vec_items c.loop-name.texts in
-    let new = vec_items c.push.new.self in
-    let text = c.in_ok-format.field-0 in
-    let more = one_more string_bytes old new text _ (pushed {was = old} {xs = old} (text ∷ []) refl c.in_ok-push.was c.push.ensures.items) (c.in_ok-format.ensures.ok ∙ ap (λ l. escaped l ++ (codes " (" ++ (counted c.in-Some.n.now (codes "record") ++ codes ")"))) c.as_str.ensures.value) in
-    gives_more string_bytes rateless_text (map string_bytes old) (map string_bytes new) c.in-Some.name.now c.in-Some.n.now _ _ _ _ turn (taken_in (map string_bytes old) (map string_bytes new) _ _ (lt-ltb 0 _ c.if-n-gt0.true) more) c.loop-name.invariant
 
 pub returns : goal.returns
 returns c =
-    record { made = gives_all string_bytes rateless_text _ _ _ (either_empty_from_Zip c.loop-name.name-iterator c.next.new.self c.next.result c.in-None.is c.next.ensures.steps) c.loop-name.invariant }
+    record {
+      made = texts_from_try_collect _ rateless_text _ c.try_collect.ensures.ran
+        (YieldsList-at c.map.ensures.source (YieldsList-from_filter _ unrated (YieldsList-at c.filter.ensures.source (YieldsList-from_slice c.args.books.now.machines.items (search rules))) c.filter.ensures.closure (λ x r q k. search rules)))
+        c.map.ensures.closure (λ x r q k. search rules);
+    }

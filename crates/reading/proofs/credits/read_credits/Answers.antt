@@ -1,4 +1,4 @@
-use Rattle.std.proofs.Common.{sym, refl, ◌∙◌, rules}
+use Rattle.std.proofs.Common.{sym, ◌∙◌, rules}
 use Rattle.reading.proofs.Sofar.{one_credit}
 use Rattle.reading.proofs.credits.read_credits.Goals as goal
 
@@ -6,17 +6,13 @@ pub lines-preserved : goal.lines-preserved
 lines-preserved c =
     let inv = c.lines.invariant in
     let step = rw c.in-Some.is at c.in_ok-line.ensures.cases in
-    let name = c.in_ok-name.ensures.cases in
-    let added = c.in_ok-add.ensures.cases inv.2.sound in (
+    let name = c.in_ok-name.ensures in
+    let added = c.in_ok-add.ensures in (
       c.in_ok-line.ensures.same ∙ inv.0,
-      step.placed,
-      one_credit
-          inv.2
-          step
-          added
-          (record { place = c.in_ok-member.member; only = c.in_ok-member.ensures.cases; holds = (sym name.0, name.1) })
-          (record {
-            number = refl;
-            cents = record { place = c.in_ok-cents.cents; only = c.in_ok-cents.ensures.cases; holds = search rules };
-          }),
+      one_credit inv.1 step added.4 (record {
+        number = added.3;
+        member = record { place = c.in_ok-member.member; only = c.in_ok-member.ensures; holds = (sym name.0 ∙ sym added.1, name.1) };
+        cents = record { place = c.in_ok-cents.cents; only = c.in_ok-cents.ensures; holds = search rules };
+      }),
+      added.5,
     )

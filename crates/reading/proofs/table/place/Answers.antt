@@ -1,38 +1,29 @@
-use Rattle.std.proofs.Common.{◌≡◌, ◌<◌, [], length, get_or, sym, refl, ◌∙◌, inr, arith, below_more}
-use Rattle.std.proofs.lemmas.Slice.Eq.{slice_eq-Decides}
-use Rattle.std.proofs.lemmas.Bool.{both_ways}
+use Rattle.std.proofs.Common.{◌≡◌, vec_items, refl, sym, ◌∙◌, inr, rules}
+use Rattle.std.proofs.lemmas.Iterator.{YieldsList-from_slice, cases_from_any}
+use borrow.Author.Tests.{tests}
 use Rattle.csv_rows.specs.Reads.{cells}
-use Rattle.reading.proofs.Rows.{field_at, field_count, only_one}
+use Rattle.reading.proofs.Rows.{take_rest, when_true, when_false, named_later, none_later, only_one}
 use Rattle.reading.proofs.table.place.Goals as goal
-use Rattle.reading.proofs.table.place.Goals.{else-k-i-via-then-k-i+else-eq, else-k-i-via-else-k-i}
-use Rattle.std.proofs.lemmas.Bool.Decides.{Decides-eqb}
 
-pub returns-then-eq : goal.returns-then-eq
-returns-then-eq c =
-    let fs = cells c.args.header.now in
-    let name = c.as_bytes-name.ensures.value ∙ c.name.ensures.value in
-    let at = field_at c.deref-field-items.ensures.value c.fields.k c.fields-test.true c.field-item.is in
-    let here = at ∙ sym c.as_slice.ensures.value ∙ (slice_eq-Decides Decides-eqb _ _ _ c.eq.ensures).0 c.if-eq.true ∙ name in
-    let first = rw name at c.in-Some.ensures.cases in
-    let lt : c.fields.k < length fs = omega (arith, field_count c.deref-field-items.ensures.value) in
-    record {
-      cases = rw c.rejected-then-eq.ensures.value (refl, inr (refl, (c.in-Some.i, c.fields.k, c.if-k-i.true, (first.0, first.1), (lt, here))));
-    }
-
-pub fields-preserved : goal.fields-preserved
-fields-preserved c =
-    let at = field_at c.deref-field-items.ensures.value c.fields.k c.fields-test.true c.field-item.is in
-    let here : c.in-Some.i < c.fields.k → get_or (cells c.args.header.now) c.fields.k [] ≡ c.as_bytes-name.result.now → ⊥ =
-    elim c.else-k-i.branch [
-      | else-k-i-via-then-k-i+else-eq w ↦ λ gt e. both_ways _ w.if-eq.false ((slice_eq-Decides Decides-eqb _ _ _ w.eq.ensures).1 (w.as_slice.ensures.value ∙ sym at ∙ e))
-      | else-k-i-via-else-k-i w ↦ λ gt e. omega (arith, w.if-k-i.false)
-    ]
-    in
-    below_more (λ k. c.in-Some.i < k → get_or (cells c.args.header.now) k [] ≡ c.as_bytes-name.result.now → ⊥) _ c.fields.invariant here
+pub returns-then-any : goal.returns-then-any
+returns-then-any c =
+    let fields = vec_items c.args.header.now.fields in
+    let i = c.in-Some.i in
+    let name = c.as_bytes-name.result.now in
+    let is = c.as_bytes-name.ensures.value ∙ c.name.ensures.value in
+    let first = rw is at c.in-Some.ensures.cases in
+    let rest = c.iter.ensures.rest ∙ take_rest _ c.deref.ensures.value in
+    let told = cases_from_any _ _ c.any.result (λ f. vec_items f ≡ name) (λ f. vec_items f ≡ name → ⊥) c.any.ensures.ran (YieldsList-from_slice _ rest) (λ x q k. search (rules, tests)) (λ x q k. search (rules, tests)) in
+    let later = named_later fields i name (when_true _ _ _ c.if-any.true told) in
+    (refl, inr (refl, (i, later.0, later.1, (first.0, first.1), (later.2.0, later.2.1 ∙ is))))
 
 pub returns : goal.returns
 returns c =
-    let fs = cells c.args.header.now in
-    let name = c.as_bytes-name.ensures.value ∙ c.name.ensures.value in
-    let first = rw name at c.in-Some.ensures.cases in
-    record { cases = only_one fs c.args.column c.in-Some.i first (λ k lt gt e. c.fields.invariant k (omega (arith, lt, field_count c.deref-field-items.ensures.value)) gt (e ∙ sym name)) }
+    let fields = vec_items c.args.header.now.fields in
+    let i = c.in-Some.i in
+    let name = c.as_bytes-name.result.now in
+    let is = c.as_bytes-name.ensures.value ∙ c.name.ensures.value in
+    let first = rw is at c.in-Some.ensures.cases in
+    let rest = c.iter.ensures.rest ∙ take_rest _ c.deref.ensures.value in
+    let told = cases_from_any _ _ c.any.result (λ f. vec_items f ≡ name) (λ f. vec_items f ≡ name → ⊥) c.any.ensures.ran (YieldsList-from_slice _ rest) (λ x q k. search (rules, tests)) (λ x q k. search (rules, tests)) in
+    only_one (cells c.args.header.now) c.args.column i first (λ k lt gt e. none_later fields i name (when_false _ _ _ c.if-any.false told) k lt gt (e ∙ sym is))

@@ -1,15 +1,42 @@
-use Rattle.std.proofs.Common.{vec_items, string_bytes, sym, ◌∙◌}
-use Rattle.std.proofs.lemmas.List.{length-map}
+use Rattle.std.proofs.Common.{◌≡◌, ◌++◌, ◌∷◌, [], map, length, Some, None, string_bytes, sym, refl, ap, subst, ◌∙◌, rules}
+use Rattle.std.proofs.lemmas.List.{length-map, map_push, take-append-le, take_all}
 use Rattle.std.proofs.lemmas.Map.Text.{btree_map_updates_text}
-use Rattle.reading.proofs.Listing.{bytes_push, grown}
+use Rattle.reading.specs.Named.{PlaceOf, Distinct, Tells}
+use Rattle.reading.proofs.Listing.{place_told, distinct_from_map, tells_same, tells_more}
 use Rattle.reading.proofs.names.Names.add.Goals as goal
 
+pub returns-in-Some : goal.returns-in-Some
+returns-in-Some g c =
+    let there = place_told c.self.invariant c.name.ensures (sym c.in-Some.is ∙ c.copied.ensures ∙ c.get.ensures.value) in
+    record {
+      added = (subst (λ xs. PlaceOf (map g.T.Named.name xs) (g.T.Named.name c.args.item) (Some c.in-Some.place)) c.self.view_is there, refl);
+      distinct = subst (λ xs. Distinct (map g.T.Named.name xs)) c.self.view_is (distinct_from_map c.self.invariant);
+    }
+
+pub invariant_of-self-in-Err : goal.invariant_of-self-in-Err
+invariant_of-self-in-Err g c =
+    let same : c.truncate.new.self.items ≡ c.self.inside.list.items = search (rules, take-append-le, take_all) in
+    tells_same (search rules) (ap (map g.T.Named.name) same) c.self.invariant
+
+pub invariant_of-self-in_default-insert : goal.invariant_of-self-in_default-insert
+invariant_of-self-in_default-insert g c =
+    let list = c.self.inside.list.items in
+    let names = map g.T.Named.name list in
+    let name = g.T.Named.name c.args.item in
+    let lacks = place_told c.self.invariant c.name.ensures (sym c.in_default.is ∙ c.copied.ensures ∙ c.get.ensures.value) in
+    let text : string_bytes c.in_ok-name.name ≡ name = search rules in
+    let last : c.len-place.result ≡ length names = search (rules, length-map) in
+    let sets = rw (text, last) at (btree_map_updates_text (string_bytes c.in_ok-name.name) c.self.inside.places c.insert.new.self _ c.in_default-insert.ensures.updates) in
+    let more : map g.T.Named.name c.push.new.self.items ≡ names ++ name ∷ [] = ap (map g.T.Named.name) c.in_ok-push.ensures.items ∙ map_push g.T.Named.name list c.args.item in
+    subst (Tells c.insert.new.self) (sym more) (tells_more c.self.inside.places c.insert.new.self names name c.self.invariant lacks c.insert.ensures.ordered sets)
+
 pub returns : goal.returns
-returns c = record {
-  after = λ sound lacks.
-      let old = c.args.self.now in
-      let sets = btree_map_updates_text (string_bytes c.in_ok-from_str.field-0) old.places c.insert.new.self _ c.in_ok-insert.ensures.updates in
-      let last = c.len-place.ensures ∙ old.list.ok.0 ∙ sym (length-map (vec_items old.list) string_bytes) in
-      let pushed = bytes_push (vec_items old.list) c.in_ok-from_str-2.field-0 c.in_ok-push.ensures.items c.in_ok-from_str-2.ensures.ok in
-      grown old _ c.args.name.now _ sound lacks last pushed c.insert.ensures.ordered (rw c.in_ok-from_str.ensures.ok at sets);
-}
+returns g c =
+    let none = place_told c.self.invariant c.name.ensures (sym c.in_default.is ∙ c.copied.ensures ∙ c.get.ensures.value) in
+    record {
+      added = (
+        subst (λ xs. PlaceOf (map g.T.Named.name xs) (g.T.Named.name c.args.item) None) c.self.view_is none,
+        c.in_ok-push.ensures.items ∙ ap (λ xs. xs ++ c.args.item ∷ []) c.self.view_is,
+      );
+      distinct = distinct_from_map (invariant_of-self-in_default-insert g c);
+    }

@@ -5,7 +5,7 @@ use Rattle.reading.proofs.table.Line.field.Goals as goal
 pub returns-in-Some : goal.returns-in-Some
 returns-in-Some c =
     let got = c.in-Some.ensures.lookup in
-    record { value = c.as_slice.ensures.value ∙ sym (field_at c.deref.ensures.value c.args.i got.3.0 got.1) }
+    c.as_slice.ensures.value ∙ sym (field_at c.deref.ensures.value c.args.i got.3.0 got.1)
 
 pub returns-in-None : goal.returns-in-None
-returns-in-None c = record { value = sym (field_past c.deref.ensures.value c.args.i c.in-None.ensures.lookup.3) }
+returns-in-None c = sym (field_past c.deref.ensures.value c.args.i c.in-None.ensures.lookup.3)
