@@ -1,7 +1,6 @@
 // The books as tab-separated values for machines: a line for each member, one for the whole log, one
 // for each token to stop and one for each machine without a rate. Amounts are whole cents.
 ghost use Rattle.std.specs.Prelude.{◌≡◌, ◌++◌, Some, string_bytes, OnOk};
-ghost use Rattle.std.specs.Fmt.{WritesOnOk};
 ghost use Rattle.frontend.specs.Lines.{Bare, kind_word, left_cents, line, number_field, rateless_lines, spot_fields, stop_lines};
 
 use crate::told::{is_stopped, is_unrated};
@@ -50,26 +49,38 @@ struct Values<'a> {
     last_missing: Option<Spot<'a>>,
 }
 
-fn write_number<W: fmt::Write>(n: Option<u64>, f: &mut fmt::Formatter<W>) -> fmt::Result
-    ensures prints { WritesOnOk W.write_str_gives f.old result (number_field n) f.new }
-{
-    match n {
-        Some(n) => write!(f, "\t{n}"),
-        None => f.write_str("\t"),
+// A field with a number, or an empty one.
+#[derive(Clone, Copy)]
+struct Number(Option<u64>);
+
+impl fmt::Display for Number {
+    ghost output = { λ n. Some (number_field n.0) };
+
+    fn fmt<W: fmt::Write>(&self, f: &mut fmt::Formatter<W>) -> fmt::Result {
+        match self.0 {
+            Some(n) => write!(f, "\t{n}"),
+            None => f.write_str("\t"),
+        }
     }
 }
 
-fn write_spot<W: fmt::Write>(spot: Option<Spot<'_>>, f: &mut fmt::Formatter<W>) -> fmt::Result
-    ensures prints { WritesOnOk W.write_str_gives f.old result (spot_fields spot.entry) f.new }
-{
-    match spot {
-        Some(spot) => {
-            let number = spot.number;
-            let line = spot.line;
-            let machine = Escaped(spot.machine);
-            write!(f, "\t{number}\t{line}\t{machine}")
+// Three fields with a record, or three empty ones.
+#[derive(Clone, Copy)]
+struct Place<'a>(Option<Spot<'a>>);
+
+impl fmt::Display for Place<'_> {
+    ghost output = { λ p. Some (spot_fields p.0) };
+
+    fn fmt<W: fmt::Write>(&self, f: &mut fmt::Formatter<W>) -> fmt::Result {
+        match self.0 {
+            Some(spot) => {
+                let number = spot.number;
+                let line = spot.line;
+                let machine = Escaped(spot.machine);
+                write!(f, "\t{number}\t{line}\t{machine}")
+            }
+            None => f.write_str("\t\t\t"),
         }
-        None => f.write_str("\t\t\t"),
     }
 }
 
@@ -79,15 +90,17 @@ impl fmt::Display for Values<'_> {
     fn fmt<W: fmt::Write>(&self, f: &mut fmt::Formatter<W>) -> fmt::Result {
         let kind = self.kind;
         let name = Escaped(self.name);
-        write!(f, "{kind}\t{name}")?;
-        write_number(self.records, f)?;
-        write_number(self.billed, f)?;
-        write_number(self.credit, f)?;
-        write_number(self.left, f)?;
-        write_spot(self.ran_out, f)?;
-        write_spot(self.first_missing, f)?;
-        write_spot(self.last_missing, f)?;
-        f.write_char('\n')
+        let records = Number(self.records);
+        let billed = Number(self.billed);
+        let credit = Number(self.credit);
+        let left = Number(self.left);
+        let out = Place(self.ran_out);
+        let first = Place(self.first_missing);
+        let last = Place(self.last_missing);
+        write!(
+            f,
+            "{kind}\t{name}{records}{billed}{credit}{left}{out}{first}{last}\n"
+        )
     }
 }
 

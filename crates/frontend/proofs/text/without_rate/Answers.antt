@@ -10,6 +10,6 @@ pub returns : goal.returns
 returns c =
     record {
       made = texts_from_try_collect _ rateless_text _ c.try_collect.ensures.ran
-        (YieldsList-at c.map.ensures.source (YieldsList-from_filter _ unrated (YieldsList-at c.filter.ensures.source (YieldsList-from_slice c.args.books.now.machines.items (search rules))) c.filter.ensures.closure (λ x r q k. search rules)))
-        c.map.ensures.closure (λ x r q k. search rules);
+          (YieldsList-at c.map.ensures.source (YieldsList-from_filter _ unrated (YieldsList-at c.filter.ensures.source (YieldsList-from_slice c.args.books.now.machines.items (search rules))) c.filter.ensures.closure (λ x r q k. search rules)))
+          c.map.ensures.closure (λ x r q k. search rules);
     }
