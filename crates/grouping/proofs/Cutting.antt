@@ -1,9 +1,8 @@
 -- Laws of the runs of a list: how many, the first, the last, a cut. Assumes nothing.
-use Rattle.std.proofs.Common.{◌≡◌, ℕ, zero, suc, ◌+◌, ◌*◌, ◌/◌, ◌%◌, ◌<◌, ◌≤◌, min, List, [], ◌∷◌, ◌++◌, length, get_or, take, drop, Some, None, Option, sym, refl, ap, ◌∙◌, ⊎_elim, append-nil, suc-mul, zero-mul, arith, length-append, length-drop, take-append-drop}
-use Rattle.std.proofs.lemmas.List.{nil_from_length, length-take-le, take_all, drop_all, take-append-le, drop-append-le, get_or-drop}
+use Rattle.std.proofs.Common.{◌≡◌, ℕ, zero, suc, ◌+◌, ◌*◌, ◌/◌, ◌%◌, ◌<◌, ◌≤◌, min, List, [], ◌∷◌, ◌++◌, map, length, get_or, take, drop, sym, refl, ap, ◌∙◌, ⊎_elim, suc-mul, zero-mul, arith, length-append, length-drop, length-take, take-append-drop}
+use Rattle.std.proofs.lemmas.List.{nil_from_length, length-take-le, take_all, drop_all, take-append-le, drop-append-le, take-take, drop-take, drop-drop, length-map, get_or-drop}
 use Rattle.std.proofs.lemmas.Nat.{div-add-mod', mod_below}
 use Rattle.std.proofs.lemmas.Bool.{cases_lt}
-use Rattle.plumbing.specs.Cursors.{Front, Back}
 use Rattle.grouping.specs.Runs.{cut_off, chunked, run_count, firsts, stepped, Places}
 
 module _ {I : Type 0} (c : ℕ) (pos : 1 ≤ c) where
@@ -56,17 +55,6 @@ module _ {I : Type 0} (c : ℕ) (pos : 1 ≤ c) where
       let d : length (drop c xs) ≡ k * c = length-drop c xs ∙ omega arith in
       ap length (chunked_first xs (omega arith)) ∙ ap suc (length_whole k (drop c xs) d)
 
-  -- no more runs than would hold them
-  pub length_fewer : (k : ℕ) (xs : List I) → length xs ≤ k * c → length (chunked c xs) ≤ k
-  length_fewer zero xs h =
-      let z : zero * c ≡ 0 = zero-mul c in
-      omega (arith, ap length (chunked_none xs (omega arith)))
-  length_fewer (suc k) xs h =
-      let n : suc k * c ≡ k * c + c = suc-mul k c in
-      ⊎_elim (λ (t : length xs < 1). omega (arith, ap length (chunked_none xs (omega arith))))
-      (λ (t : 1 ≤ length xs). omega (arith, ap length (chunked_first xs t), length_fewer k (drop c xs) (omega (arith, length-drop c xs))))
-      (cases_lt (length xs) 1)
-
   -- the last run: all stand before it in whole runs
   pub chunked_last : (k : ℕ) (xs : List I) (m : ℕ) → m ≡ k * c → m < length xs → length xs ≤ m + c → chunked c xs ≡ chunked c (take m xs) ++ (drop m xs ∷ [])
   chunked_last k xs m e lt le =
@@ -93,24 +81,32 @@ module _ {I : Type 0} (c : ℕ) (pos : 1 ≤ c) where
       ∙ length-append (chunked c (take m xs)) (chunked c (drop m xs))
       ∙ omega (arith, length_whole q (take m xs) t, rest)
 
-  -- a cut after k runs
-  pub chunked_cut : (k m : ℕ) (xs : List I) → m ≡ min (k * c) (length xs) → k ≤ length (chunked c xs)
-      → (chunked c xs ≡ chunked c (take m xs) ++ chunked c (drop m xs)) × (length (chunked c (take m xs)) ≡ k)
-  chunked_cut k m xs e h = ⊎_elim short long (cases_lt (length xs) (k * c))
-    where
-      short : length xs < k * c → (chunked c xs ≡ chunked c (take m xs) ++ chunked c (drop m xs)) × (length (chunked c (take m xs)) ≡ k)
-      short t =
-          let all : take m xs ≡ xs = take_all m xs (omega arith) in
-          let none : drop m xs ≡ [] = drop_all m xs (omega arith) in
-          let most : length (chunked c xs) ≤ k = length_fewer k xs (omega arith) in (
-            sym (ap (λ (l : List I). chunked c l ++ chunked c (drop m xs)) all ∙ ap (λ (l : List I). chunked c xs ++ chunked c l) none ∙ append-nil (chunked c xs)),
-            ap (λ (l : List I). length (chunked c l)) all ∙ omega arith,
-          )
+  pub length_valued : {J : Type 0} (v : List I → J) (xs : List I) → length (map v (chunked c xs)) ≡ run_count (length xs) c
+  length_valued v xs = length-map (chunked c xs) v ∙ length_chunked xs
 
-      long : k * c ≤ length xs → (chunked c xs ≡ chunked c (take m xs) ++ chunked c (drop m xs)) × (length (chunked c (take m xs)) ≡ k)
-      long t =
-          let n : length (take m xs) ≡ k * c = length-take-le m xs (omega arith) ∙ omega arith in
-          (ap (chunked c) (sym (take-append-drop m xs)) ∙ chunked_append k (take m xs) (drop m xs) n, length_whole k (take m xs) n)
+  -- a cut after k runs
+  pub take_runs : (k : ℕ) (xs : List I) → chunked c (take (k * c) xs) ≡ take k (chunked c xs)
+  take_runs zero xs = ap (λ n. chunked c (take n xs)) (zero-mul c)
+  take_runs (suc k) [] = ap (chunked c) (take_all (suc k * c) [] (omega arith))
+  take_runs (suc k) (x ∷ xs) =
+      let ys = x ∷ xs in
+      let m = c + k * c in
+      let e : suc k * c ≡ m = omega (arith, suc-mul k c) in
+      let some : 1 ≤ length (take m ys) = omega (arith, length-take m ys) in
+      ap (λ n. chunked c (take n ys)) e ∙ chunked_first (take m ys) some
+      ∙ ap (λ l. l ∷ chunked c (drop c (take m ys))) (take-take c m ys (omega arith))
+      ∙ ap (λ l. take c ys ∷ chunked c l) (drop-take c (k * c) ys)
+      ∙ ap (λ l. take c ys ∷ l) (take_runs k (drop c ys))
+      ∙ sym (ap (take (suc k)) (chunked_first ys (omega arith)))
+
+  pub drop_runs : (k : ℕ) (xs : List I) → chunked c (drop (k * c) xs) ≡ drop k (chunked c xs)
+  drop_runs zero xs = ap (λ n. chunked c (drop n xs)) (zero-mul c)
+  drop_runs (suc k) [] = ap (chunked c) (drop_all (suc k * c) [] (omega arith))
+  drop_runs (suc k) (x ∷ xs) =
+      let ys = x ∷ xs in
+      let e : suc k * c ≡ c + k * c = omega (arith, suc-mul k c) in
+      ap (λ n. chunked c (drop n ys)) e ∙ ap (chunked c) (sym (drop-drop (k * c) c ys)) ∙ drop_runs k (drop c ys)
+      ∙ sym (ap (drop (suc k)) (chunked_first ys (omega arith)))
 
   cut_off_firsts : (n : ℕ) (xs : List I) → length (firsts (cut_off c n xs)) ≡ length (cut_off c n xs)
   cut_off_firsts zero xs = refl
@@ -121,9 +117,32 @@ module _ {I : Type 0} (c : ℕ) (pos : 1 ≤ c) where
       one zero h rs e = absurd (omega arith)
       one (suc d) h rs e = ap suc e
 
+  first_of : (d : ℕ) → 1 ≤ d → (x : I) (xs : List I) (rs : List (List I)) → firsts (take d (x ∷ xs) ∷ rs) ≡ x ∷ firsts rs
+  first_of zero h x xs rs = absurd (omega arith)
+  first_of (suc d) h x xs rs = refl
+
+  cut_off_take : (k n : ℕ) (xs : List I) → firsts (take k (cut_off c n xs)) ≡ take k (firsts (cut_off c n xs))
+  cut_off_take zero n xs = refl
+  cut_off_take (suc k) zero xs = refl
+  cut_off_take (suc k) (suc n) [] = refl
+  cut_off_take (suc k) (suc n) (x ∷ xs) =
+      let rs = cut_off c n (drop c (x ∷ xs)) in
+      first_of c pos x xs (take k rs) ∙ ap (λ l. x ∷ l) (cut_off_take k n (drop c (x ∷ xs))) ∙ sym (ap (take (suc k)) (first_of c pos x xs rs))
+
+  cut_off_drop : (k n : ℕ) (xs : List I) → firsts (drop k (cut_off c n xs)) ≡ drop k (firsts (cut_off c n xs))
+  cut_off_drop zero n xs = refl
+  cut_off_drop (suc k) zero xs = refl
+  cut_off_drop (suc k) (suc n) [] = refl
+  cut_off_drop (suc k) (suc n) (x ∷ xs) =
+      cut_off_drop k n (drop c (x ∷ xs)) ∙ sym (ap (drop (suc k)) (first_of c pos x xs (cut_off c n (drop c (x ∷ xs)))))
+
   -- each run has a first item
-  pub length_stepped : (xs : List I) → length (stepped c xs) ≡ length (chunked c xs)
-  length_stepped xs = cut_off_firsts (length xs) xs
+  pub length_stepped : (xs : List I) → length (stepped c xs) ≡ run_count (length xs) c
+  length_stepped xs = cut_off_firsts (length xs) xs ∙ length_chunked xs
+
+  -- a cut of the first items
+  pub firsts_cut : (k : ℕ) (xs : List I) → (firsts (take k (chunked c xs)) ≡ take k (stepped c xs)) × (firsts (drop k (chunked c xs)) ≡ drop k (stepped c xs))
+  firsts_cut k xs = (cut_off_take k (length xs) xs, cut_off_drop k (length xs) xs)
 
   get_or_cut_off : (n : ℕ) (xs : List I) (k : ℕ) (d : I) → length xs ≤ n → get_or (firsts (cut_off c n xs)) k d ≡ get_or xs (k * c) d
   get_or_cut_off zero [] k d h = refl
@@ -139,24 +158,10 @@ module _ {I : Type 0} (c : ℕ) (pos : 1 ≤ c) where
 
   -- the first of each run of c items is what stands at the places 0, c, 2c and so on
   pub stepped_places : (xs : List I) → Places c xs (stepped c xs)
-  stepped_places xs = (length_stepped xs ∙ length_chunked xs, λ k d. get_or_cut_off (length xs) xs k d (omega arith))
+  stepped_places xs = (length_stepped xs, λ k d. get_or_cut_off (length xs) xs k d (omega arith))
 
 module _ {I : Type 0} where
   pub firsts_append : (rs bs : List (List I)) → firsts (rs ++ bs) ≡ firsts rs ++ firsts bs
   firsts_append [] bs = refl
   firsts_append ([] ∷ rs) bs = firsts_append rs bs
   firsts_append ((x ∷ r) ∷ rs) bs = ap (λ (l : List I). x ∷ l) (firsts_append rs bs)
-
-  pub firsts_front : (whole rest : List (List I)) (run left : List I) (o : Option I) → whole ≡ run ∷ rest → 1 ≤ length run → Front run o left → Front (firsts whole) o (firsts rest)
-  firsts_front whole rest run left (Some x) e h t = ap firsts e ∙ ap (λ (l : List I). firsts (l ∷ rest)) t
-  firsts_front whole rest run left None e h t = absurd (omega (arith, ap length t.0))
-
-  pub firsts_back : (whole rest : List (List I)) (run left : List I) (o : Option I) → whole ≡ rest ++ (run ∷ []) → 1 ≤ length run → Front run o left → Back (firsts whole) o (firsts rest)
-  firsts_back whole rest run left (Some x) e h t = ap firsts e ∙ firsts_append rest (run ∷ []) ∙ ap (λ (l : List I). firsts rest ++ firsts (l ∷ [])) t
-  firsts_back whole rest run left None e h t = absurd (omega (arith, ap length t.0))
-
-pub take_min : {J : Type 0} (c m : ℕ) (xs : List J) → m ≡ min c (length xs) → take c xs ≡ take m xs
-take_min c m xs e = ⊎_elim (λ (h : length xs < c). take_all c xs (omega arith) ∙ sym (take_all m xs (omega arith))) (λ (h : c ≤ length xs). let same : c ≡ m = omega arith in ap (λ (n : ℕ). take n xs) same) (cases_lt (length xs) c)
-
-pub drop_min : {J : Type 0} (c m : ℕ) (xs : List J) → m ≡ min c (length xs) → drop c xs ≡ drop m xs
-drop_min c m xs e = ⊎_elim (λ (h : length xs < c). drop_all c xs (omega arith) ∙ sym (drop_all m xs (omega arith))) (λ (h : c ≤ length xs). let same : c ≡ m = omega arith in ap (λ (n : ℕ). drop n xs) same) (cases_lt (length xs) c)

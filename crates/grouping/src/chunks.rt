@@ -1,16 +1,16 @@
 // The value of a chunk map for each run of a producer's items.
 ghost use Rattle.std.specs.Prelude.{◌≡◌, ◌/◌, ◌≤◌, List, map};
-ghost use Rattle.plumbing.specs.Makers.{OverOne};
-ghost use Rattle.grouping.specs.Makers.{MakesChunks};
+ghost use Rattle.plumbing.specs.Makers.{Outcome, OverOne};
+ghost use Rattle.plumbing.specs.Refusals.{zero_size};
 ghost use Rattle.grouping.specs.Runs.{chunked, run_count};
 
-use crate::runs::{count_full_runs, count_runs, cut_runs, first_run, last_run};
+use crate::runs::{cut_runs, first_run, last_run};
 use plumbing::board::Board;
 use plumbing::cursor::{BackCursor, Cursor};
 use plumbing::fold::fold_cursor;
 use plumbing::folder::Folder;
-use plumbing::producer::Producer;
-use plumbing::refusal::{Giver, Reason, Refusal};
+use plumbing::producer::{Listed, Producer};
+use plumbing::refusal::{Giver, Reason, Refusal, refuse_if};
 
 // A function of a run's list.
 pub trait ChunkMap: Copy {
@@ -21,7 +21,7 @@ pub trait ChunkMap: Copy {
     ghost value: { Self → List Self.In → Self.Out };
 
     fn map<K: Cursor<Item = Self::In>>(&self, run: K) -> Self::Out
-        ensures { K.Cursor.Valid run → result ≡ value self.now (K.Cursor.remaining run) };
+        ensures { result ≡ value self.now (K.remaining run) };
 }
 
 // The map's value for each run of `chunk_size` items, the last run possibly shorter.
@@ -30,6 +30,7 @@ pub struct ChunkProducer<P, M> {
     base: P,
     chunk_size: usize,
     map: M,
+    ghost positive: { 1 ≤ chunk_size },
 }
 
 // The map's value for each run of so many items. A size of 0 is refused.
@@ -38,15 +39,11 @@ pub fn chunks<P: Producer, M: ChunkMap<In = P::Item>>(
     chunk_size: usize,
     map: M,
 ) -> Result<ChunkProducer<P, M>, Refusal>
-    ensures { OverOne base (MakesChunks chunk_size map) result }
+    ensures { OverOne base (λ p. Outcome (zero_size Giver.Chunks chunk_size)
+        (λ x. (x.base ≡ p) × (x.chunk_size ≡ chunk_size) × (x.map ≡ map))) result }
 {
     let base = base?;
-    if chunk_size == 0 {
-        return Err(Refusal {
-            reason: Reason::Zero,
-            giver: Giver::Chunks,
-        });
-    }
+    refuse_if(chunk_size == 0, Reason::Zero, Giver::Chunks)?;
     Ok(ChunkProducer {
         base,
         chunk_size,
@@ -54,18 +51,18 @@ pub fn chunks<P: Producer, M: ChunkMap<In = P::Item>>(
     })
 }
 
-impl<P: Producer, M: ChunkMap<In = P::Item>> Producer for ChunkProducer<P, M> {
+impl<P: Listed, M: ChunkMap<In = P::Item>> Listed for ChunkProducer<P, M> {
     type Item = M::Out;
 
+    ghost items = { λ s. map (M.value s.map) (chunked s.chunk_size (P.items s.base)) };
+}
+
+impl<P: Producer, M: ChunkMap<In = P::Item>> Producer for ChunkProducer<P, M> {
     type IntoIter = ChunkSeq<P, M>;
 
-    ghost items = { λ s. map (M.ChunkMap.value s.map) (chunked s.chunk_size (P.Producer.items s.base)) };
+    ghost least = { λ s. run_count (P.least s.base) s.chunk_size };
 
-    ghost Valid = { λ s. P.Producer.Valid s.base × (1 ≤ s.chunk_size) };
-
-    ghost least = { λ s. run_count (P.Producer.least s.base) s.chunk_size };
-
-    ghost most = { λ s. P.Producer.most s.base / s.chunk_size };
+    ghost most = { λ s. P.most s.base / s.chunk_size };
 
     fn into_iter(self) -> ChunkSeq<P, M> {
         ChunkSeq {
@@ -76,15 +73,16 @@ impl<P: Producer, M: ChunkMap<In = P::Item>> Producer for ChunkProducer<P, M> {
     }
 
     fn min_len(&self) -> usize {
-        count_runs(self.base.min_len(), self.chunk_size)
+        self.base.min_len().div_ceil(self.chunk_size)
     }
 
     fn max_len(&self) -> usize {
-        count_full_runs(self.base.max_len(), self.chunk_size)
+        self.base.max_len() / self.chunk_size
     }
 
+    #[tactic(auto, using(crate::proofs::Cutting::length_valued))]
     fn len(&self) -> usize {
-        count_runs(self.base.len(), self.chunk_size)
+        self.base.len().div_ceil(self.chunk_size)
     }
 
     fn split_at(self, index: usize) -> (ChunkProducer<P, M>, ChunkProducer<P, M>) {
@@ -119,14 +117,13 @@ pub struct ChunkSeq<P, M> {
     inner: P,
     chunk_size: usize,
     map: M,
+    ghost positive: { 1 ≤ chunk_size },
 }
 
 impl<P: Producer, M: ChunkMap<In = P::Item>> Cursor for ChunkSeq<P, M> {
     type Item = M::Out;
 
-    ghost remaining = { λ s. map (M.ChunkMap.value s.map) (chunked s.chunk_size (P.Producer.items s.inner)) };
-
-    ghost Valid = { λ s. P.Producer.Valid s.inner × (1 ≤ s.chunk_size) };
+    ghost remaining = { λ s. map (M.value s.map) (chunked s.chunk_size (P.items s.inner)) };
 
     fn next(self) -> (ChunkSeq<P, M>, Option<M::Out>) {
         let ChunkSeq {
@@ -134,30 +131,21 @@ impl<P: Producer, M: ChunkMap<In = P::Item>> Cursor for ChunkSeq<P, M> {
             chunk_size,
             map,
         } = self;
-        if inner.len() == 0 {
-            return (
-                ChunkSeq {
-                    inner,
-                    chunk_size,
-                    map,
-                },
-                None,
-            );
-        }
-        let (run, rest) = first_run(inner, chunk_size);
-        let value = map.map(run.into_iter());
+        let (inner, run) = first_run(inner, chunk_size);
+        let value = run.map(|run| map.map(run.into_iter()));
         (
             ChunkSeq {
-                inner: rest,
+                inner,
                 chunk_size,
                 map,
             },
-            Some(value),
+            value,
         )
     }
 
+    #[tactic(auto, using(crate::proofs::Cutting::length_valued))]
     fn len(&self) -> usize {
-        count_runs(self.inner.len(), self.chunk_size)
+        self.inner.len().div_ceil(self.chunk_size)
     }
 }
 
@@ -168,25 +156,15 @@ impl<P: Producer, M: ChunkMap<In = P::Item>> BackCursor for ChunkSeq<P, M> {
             chunk_size,
             map,
         } = self;
-        if inner.len() == 0 {
-            return (
-                ChunkSeq {
-                    inner,
-                    chunk_size,
-                    map,
-                },
-                None,
-            );
-        }
-        let (rest, run) = last_run(inner, chunk_size);
-        let value = map.map(run.into_iter());
+        let (inner, run) = last_run(inner, chunk_size);
+        let value = run.map(|run| map.map(run.into_iter()));
         (
             ChunkSeq {
-                inner: rest,
+                inner,
                 chunk_size,
                 map,
             },
-            Some(value),
+            value,
         )
     }
 }

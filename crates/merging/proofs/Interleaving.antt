@@ -1,10 +1,12 @@
 -- Laws of the interleaving: its length, its first and its last item, a cut. Assumes nothing.
-use Rattle.std.proofs.Common.{◌≡◌, ℕ, ◌+◌, ◌<◌, ◌≤◌, Bool, true, false, not, ◌⊎◌, List, [], ◌∷◌, ◌++◌, length, take, drop, Some, None, Option, sym, refl, ap, ◌∙◌, subst, inl, inr, ⊎_elim, append-nil, arith, length-append, take-append-drop}
+use Rattle.std.proofs.Common.{◌≡◌, ℕ, ◌+◌, ◌<◌, ◌≤◌, min, Bool, true, false, not, ◌⊎◌, List, [], ◌∷◌, ◌++◌, length, take, drop, Some, None, Option, sym, refl, ap, ◌∙◌, inl, inr, ⊎_elim, append-nil, arith, length-append, take-append-drop}
 use Rattle.std.proofs.lemmas.List.{nil_from_length, length-take-le, take_all, drop_all}
 use Rattle.std.proofs.lemmas.Bool.{cases_lt}
 use Rattle.plumbing.specs.Cursors.{Front, Back}
 use Rattle.plumbing.proofs.Cuts.{halves}
+use Rattle.merging.specs.declared.interleave.Shares.{Shares}
 use Rattle.merging.specs.Interleave.{alternated, interleaved}
+use Rattle.merging.specs.Turns.{FrontOf}
 use Rattle.merging.specs.Shares.{Turns, Dealt, EndsFirst, EndsSecond}
 
 cases_le : (m n : ℕ) → (m ≤ n) ⊎ (n < m)
@@ -63,25 +65,10 @@ module _ {I : Type 0} where
   interleaved_second_nil false xs = alternated_nil xs
   interleaved_second_nil true xs = refl
 
-  -- a taking from the front, where the side that starts has an item
-  pub interleaved_first : (f : Bool) (xs ys left : List I) (x : I) → f ≡ false → xs ≡ x ∷ left → interleaved f xs ys ≡ x ∷ alternated ys left
-  interleaved_first f xs ys left x e p = ap (λ (b : Bool). interleaved b xs ys) e ∙ ap (λ (l : List I). alternated l ys) p ∙ alternated_step x left ys
-
-  pub interleaved_second : (f : Bool) (xs ys left : List I) (x : I) → f ≡ true → ys ≡ x ∷ left → interleaved f xs ys ≡ x ∷ alternated xs left
-  interleaved_second f xs ys left x e p = ap (λ (b : Bool). interleaved b xs ys) e ∙ ap (λ (l : List I). alternated l xs) p ∙ alternated_step x left xs
-
-  alternated_other : (xs left ys rest : List I) (o : Option I) → (xs ≡ []) × (left ≡ []) → Front ys o rest → Front (alternated xs ys) o (alternated rest left)
-  alternated_other xs left ys rest o none t =
-      let was : alternated xs ys ≡ ys = ap (λ (l : List I). alternated l ys) none.0 in
-      let after : alternated rest left ≡ rest = ap (alternated rest) none.1 ∙ alternated_nil rest in
-      subst (λ (l : List I). Front l o (alternated rest left)) (sym was) (subst (λ (l : List I). Front ys o l) (sym after) t)
-
-  -- the side that starts has nothing, and the other is asked
-  pub interleaved_first_none : (f : Bool) (xs left ys rest : List I) (o : Option I) → f ≡ false → (xs ≡ []) × (left ≡ []) → Front ys o rest → Front (interleaved f xs ys) o (alternated rest left)
-  interleaved_first_none f xs left ys rest o e none t = subst (λ (b : Bool). Front (interleaved b xs ys) o (alternated rest left)) (sym e) (alternated_other xs left ys rest o none t)
-
-  pub interleaved_second_none : (f : Bool) (xs ys left rest : List I) (o : Option I) → f ≡ true → (ys ≡ []) × (left ≡ []) → Front xs o rest → Front (interleaved f xs ys) o (alternated rest left)
-  interleaved_second_none f xs ys left rest o e none t = subst (λ (b : Bool). Front (interleaved b xs ys) o (alternated rest left)) (sym e) (alternated_other ys left xs rest o none t)
+  -- a taking from the front: the other list goes on
+  pub alternated_front : (xs ys left rest : List I) (o : Option I) → FrontOf xs ys o left rest → Front (alternated xs ys) o (alternated rest left)
+  alternated_front [] ys left rest o t = rw (t.0, alternated_nil rest) t.1
+  alternated_front (x ∷ xs) ys left rest o t = rw (t.0, t.1, t.2) (alternated_step x xs ys)
 
   -- a taking from the end, where the list that goes second has the last item, or there is none
   alternated_back_second : (a b left : List I) (o : Option I) → length a ≤ length b → Back b o left → Back (alternated a b) o (alternated a left)
@@ -155,14 +142,26 @@ module _ {I : Type 0} where
       ap (λ (l : List I). alternated l ys) all ∙ ap (alternated (take a xs)) ey ∙ alternated_first_out (take a xs) (take b ys) d (omega (arith, e.1)) ∙ put _ _ (sym (rest_second f after c d none)) in
       ⊎_elim even (⊎_elim odd (⊎_elim second first)) turns
 
-  -- the two parts of an interleaving that is cut at k
-  pub interleaved_cut : (k : ℕ) (f : Bool) (xs ys : List I) (a b : ℕ) (after : Bool) → Dealt k (length xs) (length ys) f a b after → (interleaved f (take a xs) (take b ys) ≡ take k (interleaved f xs ys)) × (interleaved after (drop a xs) (drop b ys) ≡ drop k (interleaved f xs ys))
+  cut_within : (k : ℕ) (f : Bool) (xs ys : List I) (s : Shares) → Dealt k (length xs) (length ys) f s → k ≤ length xs + length ys → (interleaved f (take s.i xs) (take s.j ys) ≡ take k (interleaved f xs ys)) × (interleaved s.i_next (drop s.i xs) (drop s.j ys) ≡ drop k (interleaved f xs ys))
   unfolding rest
-  interleaved_cut k false xs ys a b after t =
-      let p = alternated_cut false after xs ys a b t.first t.second t.turned in
-      let n : length (alternated (take a xs) (take b ys)) ≡ k = length_alternated (take a xs) (take b ys) ∙ omega (arith, length-take-le a xs t.first, length-take-le b ys t.second, t.sum) in
+  cut_within k false xs ys s t h =
+      let w = t.within h in
+      let p = alternated_cut false s.i_next xs ys s.i s.j w.0 w.1 t.turned in
+      let n : length (alternated (take s.i xs) (take s.j ys)) ≡ min k (length (alternated xs ys)) = length_alternated (take s.i xs) (take s.j ys) ∙ omega (arith, length-take-le s.i xs w.0, length-take-le s.j ys w.1, t.sum, length_alternated xs ys) in
       halves k _ _ _ p n
-  interleaved_cut k true xs ys a b after t =
-      let p = alternated_cut true after ys xs b a t.second t.first t.turned in
-      let n : length (alternated (take b ys) (take a xs)) ≡ k = length_alternated (take b ys) (take a xs) ∙ omega (arith, length-take-le a xs t.first, length-take-le b ys t.second, t.sum) in
+  cut_within k true xs ys s t h =
+      let w = t.within h in
+      let p = alternated_cut true s.i_next ys xs s.j s.i w.1 w.0 t.turned in
+      let n : length (alternated (take s.j ys) (take s.i xs)) ≡ min k (length (alternated ys xs)) = length_alternated (take s.j ys) (take s.i xs) ∙ omega (arith, length-take-le s.i xs w.0, length-take-le s.j ys w.1, t.sum, length_alternated ys xs) in
       halves k _ _ _ p n
+
+  cut_past : (k : ℕ) (f after : Bool) (xs ys : List I) (a b : ℕ) → (length xs ≤ a) × (length ys ≤ b) → length xs + length ys < k → (interleaved f (take a xs) (take b ys) ≡ take k (interleaved f xs ys)) × (interleaved after (drop a xs) (drop b ys) ≡ drop k (interleaved f xs ys))
+  cut_past k f after xs ys a b w h =
+      let n = length_interleaved f xs ys in (
+        interleaved_same f (take_all a xs w.0) (take_all b ys w.1) ∙ sym (take_all k (interleaved f xs ys) (omega (arith, n))),
+        interleaved_same after (drop_all a xs w.0) (drop_all b ys w.1) ∙ interleaved_second_nil after [] ∙ sym (drop_all k (interleaved f xs ys) (omega (arith, n))),
+      )
+
+  -- the two parts of an interleaving that is cut at k
+  pub interleaved_cut : (k : ℕ) (f : Bool) (xs ys : List I) (s : Shares) → Dealt k (length xs) (length ys) f s → (interleaved f (take s.i xs) (take s.j ys) ≡ take k (interleaved f xs ys)) × (interleaved s.i_next (drop s.i xs) (drop s.j ys) ≡ drop k (interleaved f xs ys))
+  interleaved_cut k f xs ys s t = ⊎_elim (cut_within k f xs ys s t) (λ h. cut_past k f s.i_next xs ys s.i s.j (t.past h) h) (cases_le k (length xs + length ys))

@@ -1,3 +1,3 @@
 pub mod Interleave
-pub mod Makers
 pub mod Shares
+pub mod Turns

@@ -1,19 +1,21 @@
 // The items of one producer, and then those of another.
 ghost use Rattle.std.specs.Prelude.{◌≡◌, ◌+◌, ◌^◌, ◌<◌, min, max, ◌++◌, length};
-ghost use Rattle.plumbing.specs.Makers.{OverTwo};
-ghost use Rattle.merging.specs.Makers.{Chains};
+ghost use Rattle.plumbing.specs.Makers.{Outcome, OverTwo};
+ghost use Rattle.plumbing.specs.Refusals.{overlong};
 
+use crate::turns::next_of;
 use plumbing::board::Board;
 use plumbing::cursor::{BackCursor, Cursor};
 use plumbing::folder::Folder;
-use plumbing::producer::Producer;
-use plumbing::refusal::{Giver, Reason, Refusal};
+use plumbing::producer::{Listed, Producer};
+use plumbing::refusal::{Giver, Reason, Refusal, refuse_if};
 
 // a, and then b.
 #[derive(Drop)]
-pub struct ChainProducer<A, B> {
+pub struct ChainProducer<A: Listed, B: Listed<Item = A::Item>> {
     a: A,
     b: B,
+    ghost fits: { length (A.items a) + length (B.items b) < 2 ^ 64 },
 }
 
 // a and then b. It is refused where they would pass 2^64 - 1 items.
@@ -21,31 +23,31 @@ pub fn chain<A: Producer, B: Producer<Item = A::Item>>(
     a: Result<A, Refusal>,
     b: Result<B, Refusal>,
 ) -> Result<ChainProducer<A, B>, Refusal>
-    ensures { OverTwo a b (Chains A.Producer B.Producer) result }
+    ensures { OverTwo a b (λ p q. Outcome (overlong Giver.Chain (length (A.items p) + length (B.items q)))
+        (λ x. (x.a ≡ p) × (x.b ≡ q))) result }
 {
     let a = a?;
     let b = b?;
-    if a.len() > usize::MAX - b.len() {
-        return Err(Refusal {
-            reason: Reason::Overlong,
-            giver: Giver::Chain,
-        });
-    }
+    refuse_if(
+        a.len() > usize::MAX - b.len(),
+        Reason::Overlong,
+        Giver::Chain,
+    )?;
     Ok(ChainProducer { a, b })
 }
 
-impl<A: Producer, B: Producer<Item = A::Item>> Producer for ChainProducer<A, B> {
+impl<A: Listed, B: Listed<Item = A::Item>> Listed for ChainProducer<A, B> {
     type Item = A::Item;
 
+    ghost items = { λ s. A.items s.a ++ B.items s.b };
+}
+
+impl<A: Producer, B: Producer<Item = A::Item>> Producer for ChainProducer<A, B> {
     type IntoIter = ChainSeq<A::IntoIter, B::IntoIter>;
 
-    ghost items = { λ s. A.Producer.items s.a ++ B.Producer.items s.b };
+    ghost least = { λ s. max (A.least s.a) (B.least s.b) };
 
-    ghost Valid = { λ s. A.Producer.Valid s.a × B.Producer.Valid s.b × (length (A.Producer.items s.a) + length (B.Producer.items s.b) < 2 ^ 64) };
-
-    ghost least = { λ s. max (A.Producer.least s.a) (B.Producer.least s.b) };
-
-    ghost most = { λ s. min (A.Producer.most s.a) (B.Producer.most s.b) };
+    ghost most = { λ s. min (A.most s.a) (B.most s.b) };
 
     fn into_iter(self) -> ChainSeq<A::IntoIter, B::IntoIter> {
         ChainSeq {
@@ -63,7 +65,7 @@ impl<A: Producer, B: Producer<Item = A::Item>> Producer for ChainProducer<A, B> 
     }
 
     fn len(&self) -> usize {
-        self.a.len().saturating_add(self.b.len())
+        self.a.len() + self.b.len()
     }
 
     fn split_at(self, index: usize) -> (ChainProducer<A, B>, ChainProducer<A, B>) {
@@ -95,32 +97,25 @@ impl<A: Producer, B: Producer<Item = A::Item>> Producer for ChainProducer<A, B> 
 }
 
 #[derive(Drop)]
-pub struct ChainSeq<K, L> {
+pub struct ChainSeq<K: Cursor, L: Cursor<Item = K::Item>> {
     a: K,
     b: L,
+    ghost fits: { length (K.remaining a) + length (L.remaining b) < 2 ^ 64 },
 }
 
-impl<K: BackCursor, L: BackCursor<Item = K::Item>> Cursor for ChainSeq<K, L> {
+impl<K: Cursor, L: Cursor<Item = K::Item>> Cursor for ChainSeq<K, L> {
     type Item = K::Item;
 
-    ghost remaining = { λ s. K.Cursor.remaining s.a ++ L.Cursor.remaining s.b };
-
-    ghost Valid = { λ s. K.Cursor.Valid s.a × L.Cursor.Valid s.b × (length (K.Cursor.remaining s.a) + length (L.Cursor.remaining s.b) < 2 ^ 64) };
+    ghost remaining = { λ s. K.remaining s.a ++ L.remaining s.b };
 
     fn next(self) -> (ChainSeq<K, L>, Option<K::Item>) {
         let ChainSeq { a, b } = self;
-        let (a, taken) = a.next();
-        match taken {
-            Some(item) => (ChainSeq { a, b }, Some(item)),
-            None => {
-                let (b, other) = b.next();
-                (ChainSeq { a, b }, other)
-            }
-        }
+        let (a, b, taken) = next_of(a, b);
+        (ChainSeq { a, b }, taken)
     }
 
     fn len(&self) -> usize {
-        self.a.len().saturating_add(self.b.len())
+        self.a.len() + self.b.len()
     }
 }
 

@@ -1,24 +1,27 @@
 // The items of two producers in turn.
-ghost use Rattle.std.specs.Prelude.{◌≡◌, ◌+◌, ◌^◌, ◌<◌, ◌≤◌, min, max, true, false, length, if◌then◌else◌};
-ghost use Rattle.plumbing.specs.Makers.{OverTwo};
-ghost use Rattle.merging.specs.Interleave.{interleaved};
-ghost use Rattle.merging.specs.Makers.{Interleaves};
+ghost use Rattle.std.specs.Prelude.{◌≡◌, ◌+◌, ◌^◌, ◌<◌, min, max, true, false, length};
+ghost use Rattle.plumbing.specs.Cursors.{left_in};
+ghost use Rattle.plumbing.specs.Makers.{Outcome, OverTwo};
+ghost use Rattle.plumbing.specs.Refusals.{overlong};
+ghost use Rattle.merging.specs.Interleave.{alternated, interleaved};
 ghost use Rattle.merging.specs.Shares.{Dealt, EndsFirst, EndsSecond};
 
+use crate::turns::next_of;
 use plumbing::board::Board;
 use plumbing::cursor::{BackCursor, Cursor};
 use plumbing::fold::fold_cursor;
 use plumbing::folder::Folder;
 use plumbing::fuse::Fuse;
-use plumbing::producer::Producer;
-use plumbing::refusal::{Giver, Reason, Refusal};
+use plumbing::producer::{Listed, Producer};
+use plumbing::refusal::{Giver, Reason, Refusal, refuse_if};
 
 // The items of i and j in turn, and then the rest of the longer. i starts, or j where `i_next` is set.
 #[derive(Drop)]
-pub struct InterleaveProducer<I, J> {
+pub struct InterleaveProducer<I: Listed, J: Listed<Item = I::Item>> {
     i: I,
     j: J,
     i_next: bool,
+    ghost fits: { length (I.items i) + length (J.items j) < 2 ^ 64 },
 }
 
 // The items of i and j in turn, i first. It is refused where they would pass 2^64 - 1 items.
@@ -26,16 +29,17 @@ pub fn interleave<I: Producer, J: Producer<Item = I::Item>>(
     i: Result<I, Refusal>,
     j: Result<J, Refusal>,
 ) -> Result<InterleaveProducer<I, J>, Refusal>
-    ensures { OverTwo i j (Interleaves I.Producer J.Producer) result }
+    ensures { OverTwo i j (λ p q. Outcome (overlong Giver.Interleave (length (I.items p) + length (J.items q)))
+        (λ x. (x.i ≡ p) × (x.j ≡ q) × (x.i_next ≡ false)
+        × (interleaved x.i_next (I.items x.i) (J.items x.j) ≡ alternated (I.items p) (J.items q)))) result }
 {
     let i = i?;
     let j = j?;
-    if i.len() > usize::MAX - j.len() {
-        return Err(Refusal {
-            reason: Reason::Overlong,
-            giver: Giver::Interleave,
-        });
-    }
+    refuse_if(
+        i.len() > usize::MAX - j.len(),
+        Reason::Overlong,
+        Giver::Interleave,
+    )?;
     Ok(InterleaveProducer {
         i,
         j,
@@ -51,21 +55,15 @@ struct Shares {
     i_next: bool,
 }
 
-fn odd_offset(flag: bool) -> usize
-    ensures { result ≡ (if flag then 0 else 1) }
-{
-    if flag { 0 } else { 1 }
-}
-
 // The shares of the two sides in the first items of an interleaving.
 fn deal(index: usize, i_len: usize, j_len: usize, i_next: bool) -> Shares
-    ensures { index ≤ i_len + j_len → Dealt index i_len j_len i_next result.i result.j result.i_next }
+    ensures { Dealt index i_len j_len i_next result }
 {
     let even = index % 2 == 0;
     let idx = index / 2;
     // the desired split
-    let i_idx = idx + odd_offset(even || i_next);
-    let j_idx = idx + odd_offset(even || !i_next);
+    let i_idx = idx + usize::from(!(even || i_next));
+    let j_idx = idx + usize::from(!(even || !i_next));
     let trailing_i_next = even == i_next;
     if i_len >= i_idx && j_len >= j_idx {
         Shares {
@@ -90,20 +88,20 @@ fn deal(index: usize, i_len: usize, j_len: usize, i_next: bool) -> Shares
     }
 }
 
-impl<I: Producer, J: Producer<Item = I::Item>> Producer for InterleaveProducer<I, J> {
+impl<I: Listed, J: Listed<Item = I::Item>> Listed for InterleaveProducer<I, J> {
     type Item = I::Item;
 
-    type IntoIter = InterleaveSeq<Fuse<I::IntoIter>, Fuse<J::IntoIter>>;
+    ghost items = { λ s. interleaved s.i_next (I.items s.i) (J.items s.j) };
+}
 
-    ghost items = { λ s. interleaved s.i_next (I.Producer.items s.i) (J.Producer.items s.j) };
+impl<I: Producer, J: Producer<Item = I::Item>> Producer for InterleaveProducer<I, J> {
+    type IntoIter = InterleaveSeq<I::IntoIter, J::IntoIter>;
 
-    ghost Valid = { λ s. I.Producer.Valid s.i × J.Producer.Valid s.j × (length (I.Producer.items s.i) + length (J.Producer.items s.j) < 2 ^ 64) };
+    ghost least = { λ s. max (I.least s.i) (J.least s.j) };
 
-    ghost least = { λ s. max (I.Producer.least s.i) (J.Producer.least s.j) };
+    ghost most = { λ s. min (I.most s.i) (J.most s.j) };
 
-    ghost most = { λ s. min (I.Producer.most s.i) (J.Producer.most s.j) };
-
-    fn into_iter(self) -> InterleaveSeq<Fuse<I::IntoIter>, Fuse<J::IntoIter>> {
+    fn into_iter(self) -> InterleaveSeq<I::IntoIter, J::IntoIter> {
         InterleaveSeq {
             i: Fuse::new(self.i.into_iter()),
             j: Fuse::new(self.j.into_iter()),
@@ -119,8 +117,9 @@ impl<I: Producer, J: Producer<Item = I::Item>> Producer for InterleaveProducer<I
         self.i.max_len().min(self.j.max_len())
     }
 
+    #[tactic(auto, using(crate::proofs::Interleaving::length_interleaved))]
     fn len(&self) -> usize {
-        self.i.len().saturating_add(self.j.len())
+        self.i.len() + self.j.len()
     }
 
     fn split_at(self, index: usize) -> (InterleaveProducer<I, J>, InterleaveProducer<I, J>) {
@@ -149,16 +148,18 @@ impl<I: Producer, J: Producer<Item = I::Item>> Producer for InterleaveProducer<I
 
 // i gives the next item, or j where `i_next` is set.
 #[derive(Drop)]
-pub struct InterleaveSeq<K, L> {
-    i: K,
-    j: L,
+pub struct InterleaveSeq<K: Cursor, L: Cursor<Item = K::Item>> {
+    i: Fuse<K>,
+    j: Fuse<L>,
     i_next: bool,
+    ghost fits: { length (left_in K.remaining i) + length (left_in L.remaining j) < 2 ^ 64 },
 }
 
 // Whether the last item is one of i's. It comes from the side that runs out last, which is the one
 // with more items; of two with as many, it is the one that goes second.
 fn ends_in_i(i_len: usize, j_len: usize, i_next: bool) -> bool
-    ensures { (result ≡ true → EndsFirst i_next i_len j_len) × (result ≡ false → EndsSecond i_next i_len j_len) }
+    ensures first { result ≡ true → EndsFirst i_next i_len j_len }
+    ensures second { result ≡ false → EndsSecond i_next i_len j_len }
 {
     if i_len == j_len {
         i_next
@@ -167,52 +168,32 @@ fn ends_in_i(i_len: usize, j_len: usize, i_next: bool) -> bool
     }
 }
 
-impl<K: BackCursor, L: BackCursor<Item = K::Item>> Cursor for InterleaveSeq<K, L> {
+impl<K: Cursor, L: Cursor<Item = K::Item>> Cursor for InterleaveSeq<K, L> {
     type Item = K::Item;
 
-    ghost remaining = { λ s. interleaved s.i_next (K.Cursor.remaining s.i) (L.Cursor.remaining s.j) };
-
-    ghost Valid = { λ s. K.Cursor.Valid s.i × L.Cursor.Valid s.j × (length (K.Cursor.remaining s.i) + length (L.Cursor.remaining s.j) < 2 ^ 64) };
+    ghost remaining = { λ s. interleaved s.i_next (left_in K.remaining s.i) (left_in L.remaining s.j) };
 
     fn next(self) -> (InterleaveSeq<K, L>, Option<K::Item>) {
         let InterleaveSeq { i, j, i_next } = self;
         if i_next {
-            let (j, taken) = j.next();
-            match taken {
-                Some(item) => (
-                    InterleaveSeq {
-                        i,
-                        j,
-                        i_next: false,
-                    },
-                    Some(item),
-                ),
-                None => {
-                    let (i, other) = i.next();
-                    (
-                        InterleaveSeq {
-                            i,
-                            j,
-                            i_next: false,
-                        },
-                        other,
-                    )
-                }
-            }
+            let (j, i, taken) = next_of(j, i);
+            (
+                InterleaveSeq {
+                    i,
+                    j,
+                    i_next: false,
+                },
+                taken,
+            )
         } else {
-            let (i, taken) = i.next();
-            match taken {
-                Some(item) => (InterleaveSeq { i, j, i_next: true }, Some(item)),
-                None => {
-                    let (j, other) = j.next();
-                    (InterleaveSeq { i, j, i_next: true }, other)
-                }
-            }
+            let (i, j, taken) = next_of(i, j);
+            (InterleaveSeq { i, j, i_next: true }, taken)
         }
     }
 
+    #[tactic(auto, using(crate::proofs::Interleaving::length_interleaved))]
     fn len(&self) -> usize {
-        self.i.len().saturating_add(self.j.len())
+        self.i.len() + self.j.len()
     }
 }
 

@@ -106,16 +106,6 @@ module _ {F I S R : Type 0} (fold : Folding F I S R) where
       same = m.same;
     }
 
-    -- nothing is left
-    pub fed_all : left ≡ [] → FedAll fold s t b0 b items
-    fed_all none =
-        let all : m.fed ≡ items = sym (append-nil m.fed) ∙ ap (λ l. m.fed ++ l) (sym none) ∙ m.parts in
-        ended (m.alike_feeds ∙ ap (feeds fold.step fold.filled t b) none)
-        (λ h g n o. record {
-          opens = subst (λ (l : List I). fold.Open t b h (g ++ l)) all (m.opens h g n o);
-          keeps = m.keeps h g n o;
-        })
-
     -- the folder says that it is full, so that the rest is the same to it
     pub fed_full : Sames (fold.Same t)
         → ((h g k : List I) → fold.Same t (h ++ g) (h ++ k) → fold.Open t b h g → fold.Open t b h k)

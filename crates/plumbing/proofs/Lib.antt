@@ -1,4 +1,2 @@
 pub mod Cuts
 pub mod Feeding
-pub mod Makers
-pub mod Takings

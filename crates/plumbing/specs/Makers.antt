@@ -16,6 +16,4 @@ OverOne (Ok p) Made r = Made p r
 
 -- a maker over two producers: a refusal from beneath is passed on, of two the first
 abbrev pub OverTwo : {P Q R : Type 0} → Result P Refusal → Result Q Refusal → (P → Q → Result R Refusal → Type 0) → Result R Refusal → Type 0
-OverTwo (Err e) other Made r = r ≡ Err e
-OverTwo (Ok p) (Err e) Made r = r ≡ Err e
-OverTwo (Ok p) (Ok q) Made r = Made p q r
+OverTwo one other Made = OverOne one (λ p. OverOne other (Made p))

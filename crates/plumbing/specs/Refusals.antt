@@ -41,13 +41,13 @@ name_of giver.Answer = codes "answer"
 abbrev pub written : Refusal → List ℕ
 written e = decimal (number_of e.reason) ++ (codes " " ++ (word_of e.reason ++ (codes " (" ++ (name_of e.giver ++ codes ")"))))
 
--- w is the word of the reason that has the number n
-abbrev pub WordOf : ℕ → List ℕ → Type 0
-WordOf n w = (reason : Reason) × (number_of reason ≡ n) × (word_of reason ≡ w)
-
 -- no reason has the number n
 abbrev pub Wordless : ℕ → Type 0
 Wordless n = (reason : Reason) → number_of reason ≢ n
+
+-- w is the word of the reason that has the number n
+abbrev pub WordOf : ℕ → List ℕ → Type 0
+WordOf n w = (reason : Reason) × (number_of reason ≡ n) × (word_of reason ≡ w)
 
 -- a refusal where the test is true, and none otherwise
 abbrev pub refused_if : Bool → Refusal → Option Refusal

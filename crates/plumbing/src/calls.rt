@@ -3,31 +3,26 @@ ghost use Rattle.std.specs.Prelude.{◌≡◌, length};
 ghost use Rattle.plumbing.specs.Cuts.{Splits};
 
 use crate::producer::Producer;
-use crate::refusal::{Giver, Reason, Refusal};
+use crate::refusal::{Giver, Reason, Refusal, refuse_if};
 
 // How many items a producer has.
 pub fn producer_len<P: Producer>(producer: &P) -> usize
-    ensures { P.Producer.Valid producer.now → result ≡ length (P.Producer.items producer.now) }
+    ensures { result ≡ length (P.items producer.now) }
 {
     producer.len()
 }
 
 // The first items of a producer, as many as the index says, and the rest. Past the end it is refused.
 pub fn split_producer<P: Producer>(producer: P, index: usize) -> Result<(P, P), Refusal>
-    ensures { Splits P.Producer producer index result }
+    ensures { Splits P.Listed producer index result }
 {
-    if index > producer.len() {
-        return Err(Refusal {
-            reason: Reason::Cut,
-            giver: Giver::Split,
-        });
-    }
+    refuse_if(index > producer.len(), Reason::Cut, Giver::Split)?;
     Ok(producer.split_at(index))
 }
 
 // The cursor over a producer's items.
 pub fn open_cursor<P: Producer>(producer: P) -> P::IntoIter
-    ensures { P.Producer.Valid producer → (P.IntoIter.Cursor.remaining result ≡ P.Producer.items producer) × P.IntoIter.Cursor.Valid result }
+    ensures { P.IntoIter.remaining result ≡ P.items producer }
 {
     producer.into_iter()
 }

@@ -8,21 +8,19 @@ pub trait Cursor: Drop {
 
     // The items that remain.
     ghost remaining: { Self → List Self.Item };
-    // Every list beneath it fits 64 bits, and no size in it is 0, as with all that the makers give.
-    ghost Valid: { Self → Type 0 };
 
     // The first item that remains, or none when nothing remains.
     fn next(self) -> (Self, Option<Self::Item>)
-        ensures { Valid self → Front (remaining self) result.1 (remaining result.0) × Valid result.0 };
+        ensures { Front (remaining self) result.1 (remaining result.0) };
 
     // How many remain.
     fn len(&self) -> usize
-        ensures { Valid self.now → result ≡ length (remaining self.now) };
+        ensures { result ≡ length (remaining self.now) };
 }
 
 // A cursor that also takes from the end.
 pub trait BackCursor: Cursor {
     // The last item that remains, or none when nothing remains.
     fn next_back(self) -> (Self, Option<Self::Item>)
-        ensures { Self.Cursor.Valid self → Back (Self.Cursor.remaining self) result.1 (Self.Cursor.remaining result.0) × Self.Cursor.Valid result.0 };
+        ensures { Back (Self.remaining self) result.1 (Self.remaining result.0) };
 }

@@ -11,14 +11,11 @@ pub fn fold_cursor<K: Cursor, F: Folder<Item = K::Item>>(
     folder: F,
     board: &mut Board<F::Slot>,
 ) -> F
-    ensures { K.Cursor.Valid cursor → FedAll F.Folder folder result board.old board.new (K.Cursor.remaining cursor) }
+    ensures { FedAll F.Folder folder result board.old board.new (K.remaining cursor) }
 {
     let mut cursor = cursor;
     let mut folder = folder;
-    'feed: for k in 0..cursor.len() {
-        if folder.full(board) {
-            return folder;
-        }
+    'feed: while !folder.full(board) {
         let (rest, taken) = cursor.next();
         cursor = rest;
         let Some(item) = taken else {

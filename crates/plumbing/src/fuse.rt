@@ -1,53 +1,54 @@
 // A cursor layer that stays at none.
-ghost use Rattle.std.specs.Prelude.{◌≡◌, false, [], if◌then◌else◌};
+ghost use Rattle.std.specs.Prelude.{◌≡◌};
+ghost use Rattle.plumbing.specs.Cursors.{left_in};
 
 use crate::cursor::{BackCursor, Cursor};
 
 #[derive(Drop)]
 pub struct Fuse<K> {
-    cursor: K,
-    ended: bool,
+    // none once it has ended
+    cursor: Option<K>,
 }
 
-impl<K: BackCursor> Fuse<K> {
+impl<K: Cursor> Fuse<K> {
     pub fn new(cursor: K) -> Fuse<K>
-        ensures { result ≡ record { cursor = cursor; ended = false } }
+        ensures { result ≡ record { cursor = Some cursor } }
     {
         Fuse {
-            cursor,
-            ended: false,
+            cursor: Some(cursor),
         }
     }
 }
 
-impl<K: BackCursor> Cursor for Fuse<K> {
+impl<K: Cursor> Cursor for Fuse<K> {
     type Item = K::Item;
 
-    ghost remaining = { λ s. (if s.ended then [] else K.Cursor.remaining s.cursor) };
-
-    ghost Valid = { λ s. K.Cursor.Valid s.cursor };
+    ghost remaining = { left_in K.remaining };
 
     fn next(self) -> (Fuse<K>, Option<K::Item>) {
-        if self.ended {
-            return (self, None);
-        }
-        let (cursor, taken) = self.cursor.next();
-        let ended = taken.is_none();
-        (Fuse { cursor, ended }, taken)
+        let Some(cursor) = self.cursor else {
+            return (Fuse { cursor: None }, None);
+        };
+        let (cursor, taken) = cursor.next();
+        let cursor = taken.is_some().then_some(cursor);
+        (Fuse { cursor }, taken)
     }
 
     fn len(&self) -> usize {
-        if self.ended { 0 } else { self.cursor.len() }
+        match &self.cursor {
+            Some(cursor) => cursor.len(),
+            None => 0,
+        }
     }
 }
 
 impl<K: BackCursor> BackCursor for Fuse<K> {
     fn next_back(self) -> (Fuse<K>, Option<K::Item>) {
-        if self.ended {
-            return (self, None);
-        }
-        let (cursor, taken) = self.cursor.next_back();
-        let ended = taken.is_none();
-        (Fuse { cursor, ended }, taken)
+        let Some(cursor) = self.cursor else {
+            return (Fuse { cursor: None }, None);
+        };
+        let (cursor, taken) = cursor.next_back();
+        let cursor = taken.is_some().then_some(cursor);
+        (Fuse { cursor }, taken)
     }
 }

@@ -1,5 +1,5 @@
 // Why a call is refused, and who refused it.
-ghost use Rattle.std.specs.Prelude.{◌≡◌, Some, None};
+ghost use Rattle.std.specs.Prelude.{◌≡◌, if◌then◌else◌, Some, MatchOption, MatchResult};
 ghost use Rattle.plumbing.specs.Refusals.{number_of, word_of, name_of, WordOf, Wordless, written};
 
 use std::fmt;
@@ -42,13 +42,41 @@ pub struct Refusal {
     pub giver: Giver,
 }
 
-impl Reason {
-    pub fn number(self) -> u64
-        ensures { result ≡ number_of self }
-    {
-        self as u64
+// Refuses where the test is true.
+pub fn refuse_if(test: bool, reason: Reason, giver: Giver) -> Result<(), Refusal>
+    ensures { result ≡ (if test then Err (record { reason = reason; giver = giver }) else Ok tt) }
+{
+    if test {
+        return Err(Refusal { reason, giver });
     }
+    Ok(())
+}
 
+impl From<Reason> for u64 {
+    ghost from_gives = { λ reason n. n ≡ number_of reason };
+
+    fn from(reason: Reason) -> u64 {
+        reason as u64
+    }
+}
+
+impl TryFrom<u64> for Reason {
+    // the number, which no reason has
+    type Error = u64;
+
+    ghost try_from_gives = { λ n r. MatchResult r (λ reason. number_of reason ≡ n) (λ e. (e ≡ n) × Wordless n) };
+
+    fn try_from(number: u64) -> Result<Reason, u64> {
+        TABLE
+            .iter()
+            .copied()
+            .find(|reason| u64::from(*reason) == number)
+            .ok_or(number)
+    }
+}
+
+impl Reason {
+    // A method too, since the look-up by number gives it out as a text that stays.
     pub fn word(self) -> &'static str
         ensures { result.now ≡ word_of self }
     {
@@ -63,11 +91,21 @@ impl Reason {
     }
 }
 
-impl Giver {
-    pub fn name(self) -> &'static str
-        ensures { result.now ≡ name_of self }
-    {
-        match self {
+// Its word.
+impl fmt::Display for Reason {
+    ghost output = { λ reason. Some (word_of reason) };
+
+    fn fmt<W: fmt::Write>(&self, f: &mut fmt::Formatter<W>) -> fmt::Result {
+        f.write_str(self.word())
+    }
+}
+
+// Its name.
+impl fmt::Display for Giver {
+    ghost output = { λ giver. Some (name_of giver) };
+
+    fn fmt<W: fmt::Write>(&self, f: &mut fmt::Formatter<W>) -> fmt::Result {
+        f.write_str(match self {
             Giver::Interleave => "interleave",
             Giver::Intersperse => "intersperse",
             Giver::Chunks => "chunks",
@@ -78,7 +116,7 @@ impl Giver {
             Giver::Helpers => "helpers",
             Giver::Advance => "advance",
             Giver::Answer => "answer",
-        }
+        })
     }
 }
 
@@ -87,10 +125,10 @@ impl fmt::Display for Refusal {
     ghost output = { λ e. Some (written e) };
 
     fn fmt<W: fmt::Write>(&self, f: &mut fmt::Formatter<W>) -> fmt::Result {
-        let number = self.reason.number();
-        let word = self.reason.word();
-        let giver = self.giver.name();
-        write!(f, "{number} {word} ({giver})")
+        let reason = self.reason;
+        let number = u64::from(reason);
+        let giver = self.giver;
+        write!(f, "{number} {reason} ({giver})")
     }
 }
 
@@ -108,13 +146,8 @@ const TABLE: [Reason; ROWS] = [
 
 // The word of a refusal's number, or none where no refusal has it.
 pub fn word(number: u64) -> Option<&'static [u8]>
-    ensures { elim result [ Some w ↦ WordOf number w.now | None ↦ Wordless number ] }
+    ensures { MatchOption result (Wordless number) (λ w. WordOf number w.now) }
 {
-    for place in 0..ROWS {
-        let reason = TABLE[place];
-        if reason.number() == number {
-            return Some(reason.word().as_bytes());
-        }
-    }
-    None
+    let reason = Reason::try_from(number).ok()?;
+    Some(reason.word().as_bytes())
 }

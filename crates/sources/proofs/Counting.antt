@@ -1,8 +1,8 @@
 -- The numbers from a up to b: the first, the last, a cut. Assumes nothing.
-use Rattle.std.proofs.Common.{◌≡◌, ℕ, zero, suc, ◌+◌, ◌-◌, ◌<◌, ◌≤◌, [], ◌∷◌, ◌++◌, length, take, drop, sym, ap, ◌∙◌, add-zero, zero-add, arith}
+use Rattle.std.proofs.Common.{◌≡◌, ℕ, zero, suc, ◌+◌, ◌-◌, ◌<◌, ◌≤◌, min, [], ◌∷◌, ◌++◌, length, take, drop, ap, ◌∙◌, add-zero, zero-add, arith}
 use Rattle.std.specs.List.{range_with_len}
 use Rattle.std.proofs.lemmas.List.FromFn.{length-range_with_len}
-use Rattle.std.proofs.lemmas.List.{take_at, drop_at}
+use Rattle.plumbing.proofs.Cuts.{halves}
 use Rattle.sources.specs.Ranges.{between}
 
 counting_append : (a m n : ℕ) → range_with_len a (m + n) ≡ range_with_len a m ++ range_with_len (a + m) n
@@ -14,12 +14,6 @@ counting_append a (suc m) n =
 
 pub length_between : (a b : ℕ) → length (between a b) ≡ b - a
 length_between a b = length-range_with_len a (b - a)
-
-pub between_none : (a b : ℕ) → b ≤ a → between a b ≡ []
-between_none a b h = let e : b - a ≡ 0 = omega arith in ap (range_with_len a) e
-
-pub between_first : (a b : ℕ) → a < b → between a b ≡ a ∷ between (a + 1) b
-between_first a b h = let e : b - a ≡ suc (b - (a + 1)) = omega arith in ap (range_with_len a) e
 
 pub between_parts : (a k b : ℕ) → k ≤ b - a → between a b ≡ between a (a + k) ++ between (a + k) b
 between_parts a k b h =
@@ -33,9 +27,8 @@ between_last a b h =
     let one : b - (b - 1) ≡ 1 = omega arith in
     between_parts a ((b - 1) - a) b (omega arith) ∙ ap (λ m. between a m ++ between m b) e ∙ ap (λ n. between a (b - 1) ++ range_with_len (b - 1) n) one
 
-pub between_cut : (a k b : ℕ) → k ≤ length (between a b) → (between a (a + k) ≡ take k (between a b)) × (between (a + k) b ≡ drop k (between a b))
-between_cut a k b h =
-    let le : k ≤ b - a = omega (arith, length_between a b) in
-    let p = between_parts a k b le in
-    let n : length (between a (a + k)) ≡ k = length_between a (a + k) ∙ omega arith in
-    (sym (ap (take k) p ∙ take_at _ _ k n), sym (ap (drop k) p ∙ drop_at (between a (a + k)) _ k n))
+-- a cut at k, or past the end
+pub between_cut : (a k b m : ℕ) → m ≡ min k (length (between a b)) → (between a (a + m) ≡ take k (between a b)) × (between (a + m) b ≡ drop k (between a b))
+between_cut a k b m e =
+    let n = length_between a b in
+    halves k (between a b) (between a (a + m)) (between (a + m) b) (between_parts a m b (omega (arith, n))) (length_between a (a + m) ∙ omega arith)

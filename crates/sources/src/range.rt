@@ -1,5 +1,5 @@
 // The numbers of a range.
-ghost use Rattle.std.specs.Prelude.{◌≡◌, ◌-◌, ◌^◌, ◌<◌, None};
+ghost use Rattle.std.specs.Prelude.{◌≡◌, ◌-◌, ◌^◌, length, None};
 ghost use Rattle.plumbing.specs.Makers.{Outcome};
 ghost use Rattle.sources.specs.Ranges.{between};
 
@@ -7,7 +7,7 @@ use plumbing::board::Board;
 use plumbing::cursor::{BackCursor, Cursor};
 use plumbing::fold::fold_cursor;
 use plumbing::folder::Folder;
-use plumbing::producer::Producer;
+use plumbing::producer::{Listed, Producer};
 use plumbing::refusal::Refusal;
 
 // The numbers from `start` up to `end`, without `end`. There are none where `start` is not below `end`.
@@ -19,26 +19,27 @@ pub struct RangeSource {
 
 // The source of a range's numbers. It is never refused.
 pub fn range(start: u64, end: u64) -> Result<RangeSource, Refusal>
-    ensures { Outcome None (λ x. (x ≡ record { start = start; end = end }) × (x.end < 2 ^ 64)) result }
+    ensures { Outcome None (λ x. x ≡ record { start = start; end = end }) result }
 {
     Ok(RangeSource { start, end })
 }
 
 // How many numbers there are from the one up to the other.
+#[tactic(auto, using(crate::proofs::Counting::length_between))]
 fn span(start: u64, end: u64) -> usize
-    ensures { result ≡ end - start }
+    ensures { result ≡ length (between start end) }
 {
     end.saturating_sub(start) as usize
 }
 
-impl Producer for RangeSource {
+impl Listed for RangeSource {
     type Item = u64;
 
-    type IntoIter = RangeCursor;
-
     ghost items = { λ s. between s.start s.end };
+}
 
-    ghost Valid = { λ s. s.end < 2 ^ 64 };
+impl Producer for RangeSource {
+    type IntoIter = RangeCursor;
 
     ghost least = { λ _. 1 };
 
@@ -82,7 +83,8 @@ impl Producer for RangeSource {
     }
 }
 
-// The numbers that are still to be read.
+// The numbers that are still to be read. It is no RangeSource: both have a `len`, and a call would
+// have to say which.
 #[derive(Drop)]
 pub struct RangeCursor {
     start: u64,
@@ -93,8 +95,6 @@ impl Cursor for RangeCursor {
     type Item = u64;
 
     ghost remaining = { λ s. between s.start s.end };
-
-    ghost Valid = { λ s. s.end < 2 ^ 64 };
 
     fn next(self) -> (RangeCursor, Option<u64>) {
         if self.start >= self.end {
@@ -116,6 +116,7 @@ impl Cursor for RangeCursor {
 }
 
 impl BackCursor for RangeCursor {
+    #[tactic(auto, using(crate::proofs::Counting::between_last))]
     fn next_back(self) -> (RangeCursor, Option<u64>) {
         if self.start >= self.end {
             return (self, None);

@@ -1,12 +1,12 @@
 // The items of a slice.
-ghost use Rattle.std.specs.Prelude.{◌≡◌, ◌-◌, ◌^◌, ◌<◌, length, None};
+ghost use Rattle.std.specs.Prelude.{◌≡◌, ◌-◌, ◌^◌, None};
 ghost use Rattle.plumbing.specs.Makers.{Outcome};
 
 use plumbing::board::Board;
 use plumbing::cursor::{BackCursor, Cursor};
 use plumbing::fold::fold_cursor;
 use plumbing::folder::Folder;
-use plumbing::producer::Producer;
+use plumbing::producer::{Listed, Producer};
 use plumbing::refusal::Refusal;
 
 // A slice of plain values.
@@ -17,19 +17,19 @@ pub struct SliceSource<'a, T> {
 
 // The source of a slice's items. It is never refused.
 pub fn slice<'a, T: Copy>(slice: &'a [T]) -> Result<SliceSource<'a, T>, Refusal>
-    ensures { Outcome None (λ x. (x.slice.now ≡ slice.now) × (length x.slice.now < 2 ^ 64)) result }
+    ensures { Outcome None (λ x. x.slice.now ≡ slice.now) result }
 {
     Ok(SliceSource { slice })
 }
 
-impl<'a, T: Copy> Producer for SliceSource<'a, T> {
+impl<'a, T: Copy> Listed for SliceSource<'a, T> {
     type Item = T;
 
-    type IntoIter = SliceCursor<'a, T>;
-
     ghost items = { λ s. s.slice.now };
+}
 
-    ghost Valid = { λ s. length s.slice.now < 2 ^ 64 };
+impl<'a, T: Copy> Producer for SliceSource<'a, T> {
+    type IntoIter = SliceCursor<'a, T>;
 
     ghost least = { λ _. 1 };
 
@@ -61,7 +61,8 @@ impl<'a, T: Copy> Producer for SliceSource<'a, T> {
     }
 }
 
-// The part of a slice that is still to be read.
+// The part of a slice that is still to be read. It is no SliceSource: both have a `len`, and a call
+// would have to say which.
 #[derive(Drop)]
 pub struct SliceCursor<'a, T> {
     rest: &'a [T],
@@ -71,8 +72,6 @@ impl<'a, T: Copy> Cursor for SliceCursor<'a, T> {
     type Item = T;
 
     ghost remaining = { λ s. s.rest.now };
-
-    ghost Valid = { λ s. length s.rest.now < 2 ^ 64 };
 
     fn next(self) -> (SliceCursor<'a, T>, Option<T>) {
         match self.rest.split_first() {

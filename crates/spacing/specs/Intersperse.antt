@@ -1,5 +1,5 @@
 -- A list with a separator between neighbours.
-use Rattle.std.specs.Prelude.{ℕ, ◌+◌, ◌-◌, Bool, true, false, cond, List, [], ◌∷◌, ◌++◌}
+use Rattle.std.specs.Prelude.{ℕ, ◌+◌, ◌-◌, Bool, true, false, if◌then◌else◌, List, [], ◌∷◌, ◌++◌}
 
 -- a separator before each item
 abbrev pub led : {I : Type 0} → I → List I → List I
@@ -22,4 +22,4 @@ framed s first xs last = edge s first ++ (interspersed s xs ++ edge s last)
 
 -- how many that are for n items
 abbrev pub width : Bool → ℕ → Bool → ℕ
-width first n last = cond first 1 0 + ((n + (n - 1)) + cond last 1 0)
+width first n last = (if first then 1 else 0) + ((n + (n - 1)) + (if last then 1 else 0))

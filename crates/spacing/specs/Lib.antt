@@ -1,3 +1,2 @@
 pub mod Intersperse
-pub mod Makers
 pub mod Seams

@@ -1,8 +1,9 @@
 // A producer's items with a separator between neighbours.
-ghost use Rattle.std.specs.Prelude.{◌≡◌, ◌+◌, ◌^◌, ◌<◌, ◌≤◌, length, if◌then◌else◌};
-ghost use Rattle.plumbing.specs.Makers.{OverOne};
-ghost use Rattle.spacing.specs.Intersperse.{framed, width};
-ghost use Rattle.spacing.specs.Makers.{Intersperses};
+ghost use Rattle.std.specs.Prelude.{◌≡◌, ◌^◌, ◌<◌, false, length};
+ghost use Rattle.plumbing.specs.Cursors.{left_in};
+ghost use Rattle.plumbing.specs.Makers.{Outcome, OverOne};
+ghost use Rattle.plumbing.specs.Refusals.{overlong};
+ghost use Rattle.spacing.specs.Intersperse.{interspersed, framed, width};
 ghost use Rattle.spacing.specs.Seams.{Seamed};
 
 use plumbing::board::Board;
@@ -10,34 +11,37 @@ use plumbing::cursor::{BackCursor, Cursor};
 use plumbing::fold::fold_cursor;
 use plumbing::folder::Folder;
 use plumbing::fuse::Fuse;
-use plumbing::producer::Producer;
-use plumbing::refusal::{Giver, Reason, Refusal};
+use plumbing::producer::{Listed, Producer};
+use plumbing::refusal::{Giver, Reason, Refusal, refuse_if};
 
 // The base's items with one separator between neighbours; before them one more if `clone_first`,
 // and after them one more if `clone_last`.
 #[derive(Drop)]
-pub struct IntersperseProducer<P, T> {
+pub struct IntersperseProducer<P: Listed> {
     base: P,
-    item: T,
+    item: P::Item,
     clone_first: bool,
     clone_last: bool,
+    ghost fits: { width clone_first (length (P.items base)) clone_last < 2 ^ 64 },
 }
 
 // The items with the separator between neighbours. It is refused where they would pass 2^64 - 1 items.
+#[tactic(auto, using(crate::proofs::Interspersing::length_interspersed, crate::proofs::Interspersing::framed_bare))]
 pub fn intersperse<P: Producer>(
     base: Result<P, Refusal>,
     item: P::Item,
-) -> Result<IntersperseProducer<P, P::Item>, Refusal>
-    ensures { OverOne base (Intersperses P.Producer item) result }
+) -> Result<IntersperseProducer<P>, Refusal>
+    ensures { OverOne base (λ p. Outcome (overlong Giver.Intersperse (length (interspersed item (P.items p))))
+        (λ x. (x.base ≡ p) × (x.item ≡ item) × (x.clone_first ≡ false) × (x.clone_last ≡ false)
+        × (framed x.item x.clone_first (P.items x.base) x.clone_last ≡ interspersed item (P.items p)))) result }
 {
     let base = base?;
     // n items take n - 1 separators
-    if base.len() > usize::MAX / 2 + 1 {
-        return Err(Refusal {
-            reason: Reason::Overlong,
-            giver: Giver::Intersperse,
-        });
-    }
+    refuse_if(
+        base.len() > usize::MAX / 2 + 1,
+        Reason::Overlong,
+        Giver::Intersperse,
+    )?;
     Ok(IntersperseProducer {
         base,
         item,
@@ -46,19 +50,13 @@ pub fn intersperse<P: Producer>(
     })
 }
 
-fn one_if(flag: bool) -> usize
-    ensures { result ≡ (if flag then 1 else 0) }
-{
-    if flag { 1 } else { 0 }
-}
-
 // How many there are in all, or 2^64 - 1 where they are more.
 fn spaced_len(len: usize, first: bool, last: bool) -> usize
     ensures { width first len last < 2 ^ 64 → result ≡ width first len last }
 {
     len.saturating_add(len.saturating_sub(1))
-        .saturating_add(one_if(first))
-        .saturating_add(one_if(last))
+        .saturating_add(usize::from(first))
+        .saturating_add(usize::from(last))
 }
 
 // How many items of the base go to the left part of a cut, and the ends of the two parts.
@@ -73,9 +71,9 @@ struct Seam {
 
 // Where a cut falls among the items and the separators.
 fn find_seam(index: usize, len: usize, first: bool, last: bool) -> Seam
-    ensures { index ≤ width first len last → Seamed index len first last result.base result.left_first result.left_last result.right_first result.right_last }
+    ensures { Seamed index len first last result }
 {
-    let lead = one_if(first);
+    let lead = usize::from(first);
     if index < lead {
         // before the leading separator
         return Seam {
@@ -131,20 +129,20 @@ fn find_seam(index: usize, len: usize, first: bool, last: bool) -> Seam
     }
 }
 
-impl<P: Producer> Producer for IntersperseProducer<P, P::Item> {
+impl<P: Listed> Listed for IntersperseProducer<P> {
     type Item = P::Item;
 
-    type IntoIter = IntersperseIter<Fuse<P::IntoIter>, P::Item>;
+    ghost items = { λ s. framed s.item s.clone_first (P.items s.base) s.clone_last };
+}
 
-    ghost items = { λ s. framed s.item s.clone_first (P.Producer.items s.base) s.clone_last };
+impl<P: Producer> Producer for IntersperseProducer<P> {
+    type IntoIter = IntersperseIter<P::IntoIter>;
 
-    ghost Valid = { λ s. P.Producer.Valid s.base × (width s.clone_first (length (P.Producer.items s.base)) s.clone_last < 2 ^ 64) };
+    ghost least = { λ s. P.least s.base };
 
-    ghost least = { λ s. P.Producer.least s.base };
+    ghost most = { λ s. P.most s.base };
 
-    ghost most = { λ s. P.Producer.most s.base };
-
-    fn into_iter(self) -> IntersperseIter<Fuse<P::IntoIter>, P::Item> {
+    fn into_iter(self) -> IntersperseIter<P::IntoIter> {
         IntersperseIter {
             base: Fuse::new(self.base.into_iter()),
             item: self.item,
@@ -161,17 +159,12 @@ impl<P: Producer> Producer for IntersperseProducer<P, P::Item> {
         self.base.max_len()
     }
 
+    #[tactic(auto, using(crate::proofs::Interspersing::length_framed))]
     fn len(&self) -> usize {
         spaced_len(self.base.len(), self.clone_first, self.clone_last)
     }
 
-    fn split_at(
-        self,
-        index: usize,
-    ) -> (
-        IntersperseProducer<P, P::Item>,
-        IntersperseProducer<P, P::Item>,
-    ) {
+    fn split_at(self, index: usize) -> (IntersperseProducer<P>, IntersperseProducer<P>) {
         let IntersperseProducer {
             base,
             item,
@@ -202,21 +195,20 @@ impl<P: Producer> Producer for IntersperseProducer<P, P::Item> {
 }
 
 #[derive(Drop)]
-pub struct IntersperseIter<K, T> {
-    base: K,
-    item: T,
+pub struct IntersperseIter<K: Cursor> {
+    base: Fuse<K>,
+    item: K::Item,
     clone_first: bool,
     clone_last: bool,
+    ghost fits: { width clone_first (length (left_in K.remaining base)) clone_last < 2 ^ 64 },
 }
 
-impl<K: BackCursor> Cursor for IntersperseIter<K, K::Item> {
+impl<K: Cursor> Cursor for IntersperseIter<K> {
     type Item = K::Item;
 
-    ghost remaining = { λ s. framed s.item s.clone_first (K.Cursor.remaining s.base) s.clone_last };
+    ghost remaining = { λ s. framed s.item s.clone_first (left_in K.remaining s.base) s.clone_last };
 
-    ghost Valid = { λ s. K.Cursor.Valid s.base × (width s.clone_first (length (K.Cursor.remaining s.base)) s.clone_last < 2 ^ 64) };
-
-    fn next(self) -> (IntersperseIter<K, K::Item>, Option<K::Item>) {
+    fn next(self) -> (IntersperseIter<K>, Option<K::Item>) {
         let IntersperseIter {
             base,
             item,
@@ -249,28 +241,27 @@ impl<K: BackCursor> Cursor for IntersperseIter<K, K::Item> {
                     Some(first),
                 )
             }
-            None => {
-                let taken = if clone_last { Some(item) } else { None };
-                (
-                    IntersperseIter {
-                        base,
-                        item,
-                        clone_first: false,
-                        clone_last: false,
-                    },
-                    taken,
-                )
-            }
+            None => (
+                IntersperseIter {
+                    base,
+                    item,
+                    clone_first: false,
+                    clone_last: false,
+                },
+                clone_last.then_some(item),
+            ),
         }
     }
 
+    #[tactic(auto, using(crate::proofs::Interspersing::length_framed))]
     fn len(&self) -> usize {
         spaced_len(self.base.len(), self.clone_first, self.clone_last)
     }
 }
 
-impl<K: BackCursor> BackCursor for IntersperseIter<K, K::Item> {
-    fn next_back(self) -> (IntersperseIter<K, K::Item>, Option<K::Item>) {
+// It mirrors `next`. One text for both ends would choose each field by a flag.
+impl<K: BackCursor> BackCursor for IntersperseIter<K> {
+    fn next_back(self) -> (IntersperseIter<K>, Option<K::Item>) {
         let IntersperseIter {
             base,
             item,
@@ -303,18 +294,15 @@ impl<K: BackCursor> BackCursor for IntersperseIter<K, K::Item> {
                     Some(last),
                 )
             }
-            None => {
-                let taken = if clone_first { Some(item) } else { None };
-                (
-                    IntersperseIter {
-                        base,
-                        item,
-                        clone_first: false,
-                        clone_last: false,
-                    },
-                    taken,
-                )
-            }
+            None => (
+                IntersperseIter {
+                    base,
+                    item,
+                    clone_first: false,
+                    clone_last: false,
+                },
+                clone_first.then_some(item),
+            ),
         }
     }
 }

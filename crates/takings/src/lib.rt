@@ -26,7 +26,7 @@ pub enum Answer<T> {
 // Makes one call.
 fn run_call<K: BackCursor>(cursor: K, call: Call) -> (K, Answer<K::Item>)
     ensures kind { call_of result.1 ≡ call }
-    ensures answered { K.Cursor.Valid cursor → Answered (K.Cursor.remaining cursor) result.1 (K.Cursor.remaining result.0) × K.Cursor.Valid result.0 }
+    ensures answered { Answered (K.remaining cursor) result.1 (K.remaining result.0) }
 {
     match call {
         Call::Next => {
@@ -51,7 +51,7 @@ pub fn run_calls<K: BackCursor>(
     calls: &[Call],
     log: &mut Vec<Answer<K::Item>>,
 ) -> Result<K, AllocError>
-    ensures { IfOk result (λ rest. K.Cursor.Valid cursor → Logged log.old.items log.new.items (K.Cursor.remaining cursor) calls.now (K.Cursor.remaining rest) × K.Cursor.Valid rest) }
+    ensures { IfOk result (λ rest. Logged log.old.items log.new.items (K.remaining cursor) calls.now (K.remaining rest)) }
 {
     let mut cursor = cursor;
     for call in calls {

@@ -4,7 +4,5 @@ use Rattle.takings.proofs.run_calls.Given as goal
 
 abbrev pub invariant-loop-call : goal.invariant-loop-call
 invariant-loop-call g l =
-    let k = g.K.Cursor in
-    k.Valid l.initial.cursor
-    → Logged (vec_items l.initial.log) (vec_items l.log) (k.remaining l.initial.cursor) (take l.call-index l.calls) (k.remaining l.cursor)
-    × k.Valid l.cursor
+    let remaining = g.K.Cursor.remaining in
+    Logged (vec_items l.initial.log) (vec_items l.log) (remaining l.initial.cursor) (take l.call-index l.calls) (remaining l.cursor)

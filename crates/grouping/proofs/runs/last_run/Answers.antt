@@ -1,25 +1,15 @@
-use Rattle.std.proofs.Common.{◌≡◌, ◌+◌, ◌-◌, ◌*◌, ◌/◌, ◌%◌, ◌<◌, [], ◌∷◌, ◌++◌, length, drop, sym, refl, ap, ◌∙◌, arith, length-drop}
+use Rattle.std.proofs.Common.{◌≡◌, ◌+◌, ◌-◌, ◌*◌, ◌/◌, ◌%◌, ◌<◌, refl, arith}
 use Rattle.std.proofs.lemmas.Nat.{div-add-mod', mod_below}
-use Rattle.grouping.specs.Runs.{chunked}
 use Rattle.grouping.proofs.Cutting.{chunked_last}
 use Rattle.grouping.proofs.runs.last_run.Goals as goal
 
-pub returns : goal.returns
-returns g c = λ sound some.
+pub returns-clause-taken : goal.returns-clause-taken
+returns-clause-taken g c = λ pos.
     let size = c.args.size in
-    let valid = sound.0 in
-    let pos = sound.1 in
-    let xs = g.P.Producer.items c.args.base in
     let n = c.len-len.result in
-    let e : n ≡ length xs = c.len-len.ensures valid in
     let k = (n - 1) / size in
     let whole : k * size + (n - 1) % size ≡ n - 1 = div-add-mod' (n - 1) size in
     let below : (n - 1) % size < size = mod_below (n - 1) size pos in
-    let p = c.split_at-2.ensures valid (omega arith) in
-    let m = k * size in
-    record {
-      joined = chunked_last size pos k xs m refl (omega arith) (omega arith) ∙ ap (λ t. chunked size t ++ (drop m xs ∷ [])) (sym p.0) ∙ ap (λ t. chunked size (g.P.Producer.items c.split_at-2.result.0) ++ (t ∷ [])) (sym p.1);
-      some = omega (arith, ap length p.1 ∙ length-drop m xs);
-      rest_valid = p.2;
-      run_valid = p.3;
-    }
+    let parts = c.split_at-rest.ensures in
+    let e = c.len-len.ensures in
+    rw (parts.left, parts.right) (chunked_last size pos k (g.P.Listed.items c.args.base) (k * size) refl (omega arith) (omega arith))

@@ -1,13 +1,12 @@
-use Rattle.std.proofs.Common.{◌≡◌, ℕ, ◌+◌, take, drop, sym, subst, arith}
-use Rattle.sources.specs.Ranges.{between}
+use Rattle.std.proofs.Common.{arith}
 use Rattle.sources.proofs.Counting.{length_between, between_cut}
 use Rattle.sources.proofs.range.RangeSourceProducer.split_at.Goals as goal
 
+pub overflow_add-mid : goal.overflow_add-mid
+overflow_add-mid c = let s = c.args.self in omega (arith, length_between s.start s.end)
+
 pub returns : goal.returns
-returns c = λ valid within.
-    let a = c.args.self.start in
-    let b = c.args.self.end in
-    let k = c.args.index in
-    let e : c.min.result ≡ k = omega (arith, length_between a b) in
-    let cut = subst (λ (m : ℕ). (between a (a + m) ≡ take k (between a b)) × (between (a + m) b ≡ drop k (between a b))) (sym e) (between_cut a k b within) in
-    (cut.0, cut.1, omega (arith, length_between a b), valid)
+returns c =
+    let s = c.args.self in
+    let cut = between_cut s.start c.args.index s.end c.min.result (omega arith) in
+    record { left = cut.0; right = cut.1 }
