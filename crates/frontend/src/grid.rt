@@ -13,7 +13,7 @@ pub enum Align {
 }
 
 // The side that a column's texts stand at, and how many characters the longest of them has.
-#[derive(Clone, Copy, PartialEq, Eq, Debug)]
+#[derive(Clone, Copy)]
 struct Column {
     align: Align,
     width: usize,

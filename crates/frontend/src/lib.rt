@@ -6,5 +6,4 @@ pub mod messages;
 pub mod options;
 pub mod run;
 mod text;
-mod told;
 mod tsv;

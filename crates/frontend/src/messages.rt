@@ -38,12 +38,10 @@ impl fmt::Display for Message<'_> {
         match self {
             Message::Memory => f.write_str("there is not enough memory"),
             Message::Words(words) => write!(f, "{words}"),
-            Message::NoFile { file, error } => {
-                write!(
-                    f,
-                    "{file}: found no file that can be read ({error}), wanted comma-separated text"
-                )
-            }
+            Message::NoFile { file, error } => write!(
+                f,
+                "{file}: found no file that can be read ({error}), wanted comma-separated text"
+            ),
             Message::BadInput { file, rejection } => {
                 let line = rejection.line;
                 let told = Told(&rejection.problem);
@@ -64,25 +62,23 @@ impl fmt::Display for Told<'_> {
             Problem::NoHeader => f.write_str(
                 "found no line, wanted a header line with the columns' names",
             ),
-            Problem::MissingColumn(column) => {
-                write!(f, "found no column {column}, wanted one in the header line")
-            }
-            Problem::ColumnTwice(column) => {
-                write!(f, "found the column {column} twice, wanted it once")
-            }
+            Problem::MissingColumn(column) => write!(
+                f,
+                "found no column {column}, wanted one in the header line"
+            ),
+            Problem::ColumnTwice(column) => write!(
+                f,
+                "found the column {column} twice, wanted it once"
+            ),
             Problem::FieldCount { found, wanted } => {
                 let fields = Count(*found, "field");
                 write!(f, "found {fields}, wanted {wanted}")
             }
-            Problem::NotText(column) => {
-                write!(
-                    f,
-                    "found bytes that are no UTF-8 text in column {column}, wanted text"
-                )
-            }
-            Problem::NoName(column) => {
-                write!(f, "found nothing in column {column}, wanted a name")
-            }
+            Problem::NotText(column) => write!(
+                f,
+                "found bytes that are no UTF-8 text in column {column}, wanted text"
+            ),
+            Problem::NoName(column) => write!(f, "found nothing in column {column}, wanted a name"),
             Problem::NotNumber { column, found } => {
                 let most = column.most();
                 let or = if column.may_be_empty() {
@@ -99,12 +95,10 @@ impl fmt::Display for Told<'_> {
                 f,
                 "found member {member:?}, wanted one that has a line in the credits"
             ),
-            Problem::CreditTwice { member, first } => {
-                write!(
-                    f,
-                    "found member {member:?} again, who has line {first} already, wanted each member once"
-                )
-            }
+            Problem::CreditTwice { member, first } => write!(
+                f,
+                "found member {member:?} again, who has line {first} already, wanted each member once"
+            ),
         }
     }
 }

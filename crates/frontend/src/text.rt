@@ -1,16 +1,17 @@
 // The books as text for people.
 ghost use Rattle.std.specs.Prelude.{◌≡◌, [], ◌∷◌, ◌++◌, map, IfOk, IfSome, string_bytes};
-ghost use Rattle.frontend.specs.Cells.{billed_text, left_text, listed, rateless_texts, spot_text, to_stop, why_text};
-ghost use Rattle.frontend.specs.Told.{written_or};
+ghost use Rattle.std.specs.List.{AllZip};
+ghost use Rattle.frontend.specs.Cells.{LogLine, Outcome, RowOf, TellsWhy, billed_text, left_text, listed, rateless_texts, spot_text, to_stop, why_text, written_or};
+ghost use Rattle.frontend.specs.Told.{all_totalless};
 
 use crate::grid::{Align, Grid};
-use crate::told::{is_stopped, is_unrated};
 use ledger::books::{Books, Member};
 use ledger::shown::{Count, Escaped, Money, Spot};
 use std::alloc::{AllocError, Global};
 use std::fmt;
 use workshop::credit::Standing;
 
+// The columns of the members' grid, each with its name and the side that its texts stand at.
 const COLUMNS: [(&str, Align); 8] = [
     ("member", Align::Left),
     ("records", Align::Right),
@@ -58,7 +59,9 @@ fn spot(heap: Global, spot: Option<Spot<'_>>) -> Result<String, AllocError>
     text_or(heap, spot, "-")
 }
 
-fn member_row(heap: Global, books: &Books, member: &Member) -> Result<[String; 8], AllocError> {
+fn member_row(heap: Global, books: &Books, member: &Member) -> Result<[String; 8], AllocError>
+    ensures made { IfOk result (RowOf books.now member.now) }
+{
     let Member {
         credit,
         account,
@@ -92,19 +95,29 @@ fn no_total(heap: Global, first: Option<Spot<'_>>) -> Result<String, AllocError>
     text_or(heap, first, "a sum above 18446744073709551615 cents")
 }
 
-fn log_line(heap: Global, books: &Books) -> Result<String, AllocError> {
-    let records = Count(books.entries.len(), "record");
-    let members = Count(books.members.len(), "member");
+// What the whole log comes to.
+fn outcome(heap: Global, books: &Books) -> Result<String, AllocError>
+    ensures made { IfOk result (λ t. Outcome books.now books.now.whole.total (string_bytes t)) }
+{
     match books.whole.total {
         Some(cents) => {
             let total = Money(cents);
-            format!(in heap; "whole log: {records}, {members}, total {total}\n")
+            format!(in heap; "total {total}")
         }
         None => {
             let why = no_total(heap, books.spot(books.whole.first_missing))?;
-            format!(in heap; "whole log: {records}, {members}, no total ({why})\n")
+            format!(in heap; "no total ({why})")
         }
     }
+}
+
+fn log_line(heap: Global, books: &Books) -> Result<String, AllocError>
+    ensures made { IfOk result (λ t. LogLine books.now (string_bytes t)) }
+{
+    let records = Count(books.entries.len(), "record");
+    let members = Count(books.members.len(), "member");
+    let outcome = outcome(heap, books)?;
+    format!(in heap; "whole log: {records}, {members}, {outcome}\n")
 }
 
 // A line that lists texts after a title.
@@ -124,22 +137,29 @@ fn tokens_to_stop(heap: Global, books: &Books) -> Result<Vec<String>, AllocError
     books
         .members
         .iter()
-        .filter(|member| is_stopped(member))
+        .filter(|member| member.statement.standing.ran_out().is_some())
         .map(|member| Escaped(member.credit.member.as_str()).to_string(heap))
         .try_collect(heap)
 }
 
-fn without_total(heap: Global, books: &Books) -> Result<Vec<String>, AllocError> {
+// A member, and why there is no total.
+fn totalless(heap: Global, books: &Books, member: &Member) -> Result<String, AllocError>
+    ensures made { IfOk result (TellsWhy books.now member.now) }
+{
+    let name = Escaped(member.credit.member.as_str());
+    let first = books.spot_of(&member.account, member.statement.first_missing);
+    let why = no_total(heap, first)?;
+    format!(in heap; "{name} ({why})")
+}
+
+fn without_total(heap: Global, books: &Books) -> Result<Vec<String>, AllocError>
+    ensures made { IfOk result (λ t. AllZip (TellsWhy books.now) (all_totalless books.now.members.items) t.items) }
+{
     books
         .members
         .iter()
         .filter(|member| member.statement.total.is_none())
-        .map(|member| {
-            let name = Escaped(member.credit.member.as_str());
-            let first = books.spot_of(&member.account, member.statement.first_missing);
-            let why = no_total(heap, first)?;
-            format!(in heap; "{name} ({why})")
-        })
+        .map(|member| totalless(heap, books, member))
         .try_collect(heap)
 }
 
@@ -149,7 +169,7 @@ fn without_rate(heap: Global, books: &Books) -> Result<Vec<String>, AllocError>
     books
         .machines
         .iter()
-        .filter(|machine| is_unrated(machine))
+        .filter(|machine| machine.rateless > 0)
         .map(|machine| {
             let name = Escaped(machine.name.as_str());
             let records = Count(machine.rateless, "record");
@@ -161,11 +181,16 @@ fn without_rate(heap: Global, books: &Books) -> Result<Vec<String>, AllocError>
 pub fn page(heap: Global, books: &Books) -> Result<String, AllocError> {
     let members = member_grid(heap, books)?;
     let log = log_line(heap, books)?;
-    let stop = tokens_to_stop(heap, books)?;
-    let stop = list_line(heap, "tokens to stop:", stop.as_slice())?;
-    let no_total = without_total(heap, books)?;
-    let no_total = list_line(heap, "members without a total:", no_total.as_slice())?;
-    let no_rate = without_rate(heap, books)?;
-    let no_rate = list_line(heap, "machines without a rate:", no_rate.as_slice())?;
+    let stop = list_line(heap, "tokens to stop:", &tokens_to_stop(heap, books)?)?;
+    let no_total = list_line(
+        heap,
+        "members without a total:",
+        &without_total(heap, books)?,
+    )?;
+    let no_rate = list_line(
+        heap,
+        "machines without a rate:",
+        &without_rate(heap, books)?,
+    )?;
     format!(in heap; "{members}\n{log}{stop}{no_total}{no_rate}")
 }

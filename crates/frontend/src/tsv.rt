@@ -1,9 +1,9 @@
 // The books as tab-separated values for machines: a line for each member, one for the whole log, one
 // for each token to stop and one for each machine without a rate. Amounts are whole cents.
-ghost use Rattle.std.specs.Prelude.{◌≡◌, ◌++◌, Some, string_bytes, OnOk};
-ghost use Rattle.frontend.specs.Lines.{Bare, kind_word, left_cents, line, number_field, rateless_lines, spot_fields, stop_lines};
+ghost use Rattle.std.specs.Prelude.{◌≡◌, ◌++◌, Some, string_bytes, IfOk, OnOk};
+ghost use Rattle.frontend.specs.Lines.{Bare, MembersAdded, OfLog, OfMember, PageOf, kind_word, left_cents, line, number_field, rateless_lines, spot_fields, stop_lines};
+ghost use Rattle.frontend.specs.declared.tsv.TheConstants.{HEADING};
 
-use crate::told::{is_stopped, is_unrated};
 use ledger::books::{Books, Member};
 use ledger::shown::{Escaped, Spot};
 use std::alloc::{AllocError, Global};
@@ -130,7 +130,9 @@ impl<'a> Values<'a> {
         }
     }
 
-    fn of_member(books: &'a Books, member: &'a Member) -> Values<'a> {
+    fn of_member(books: &'a Books, member: &'a Member) -> Values<'a>
+        ensures { OfMember books.now member.now result }
+    {
         let Member {
             credit,
             account,
@@ -149,7 +151,9 @@ impl<'a> Values<'a> {
         }
     }
 
-    fn of_log(books: &'a Books) -> Values<'a> {
+    fn of_log(books: &'a Books) -> Values<'a>
+        ensures { OfLog books.now result }
+    {
         Values {
             records: Some(books.entries.len() as u64),
             billed: books.whole.total,
@@ -160,7 +164,9 @@ impl<'a> Values<'a> {
     }
 }
 
-fn push_members(books: &Books, page: &mut String) -> Result<(), AllocError> {
+fn push_members(books: &Books, page: &mut String) -> Result<(), AllocError>
+    ensures made { OnOk result (MembersAdded books.now books.now.members.items (string_bytes page.old) (string_bytes page.new)) }
+{
     for member in &books.members {
         let values = Values::of_member(books, member);
         write!(page, "{values}")?;
@@ -172,7 +178,7 @@ fn push_stops(books: &Books, page: &mut String) -> Result<(), AllocError>
     ensures made { OnOk result (string_bytes page.new ≡ string_bytes page.old ++ stop_lines books.now.members.items) }
 {
     for member in &books.members {
-        if is_stopped(member) {
+        if member.statement.standing.ran_out().is_some() {
             let values = Values::bare(Kind::Stop, member.credit.member.as_str());
             write!(page, "{values}")?;
         }
@@ -184,7 +190,7 @@ fn push_rateless(books: &Books, page: &mut String) -> Result<(), AllocError>
     ensures made { OnOk result (string_bytes page.new ≡ string_bytes page.old ++ rateless_lines books.now.machines.items) }
 {
     for machine in &books.machines {
-        if is_unrated(machine) {
+        if machine.rateless > 0 {
             let values = Values {
                 records: Some(machine.rateless as u64),
                 ..Values::bare(Kind::NoRate, machine.name.as_str())
@@ -195,7 +201,9 @@ fn push_rateless(books: &Books, page: &mut String) -> Result<(), AllocError>
     Ok(())
 }
 
-pub fn page(heap: Global, books: &Books) -> Result<String, AllocError> {
+pub fn page(heap: Global, books: &Books) -> Result<String, AllocError>
+    ensures made { IfOk result (λ t. PageOf HEADING.now books.now (string_bytes t)) }
+{
     let mut page = String::from_str(heap, HEADING)?;
     push_members(books, &mut page)?;
     let values = Values::of_log(books);
