@@ -40,6 +40,7 @@ pub enum ReadError {
     Malformed { fault: Fault, at: usize },
 }
 
+// By hand, since clauses name the error that comes out, and of a derived one nothing is known.
 impl From<AllocError> for ReadError {
     ghost from_gives = { λ _ r. r ≡ Memory };
 
@@ -65,7 +66,8 @@ pub struct Row {
     pub lines: usize,
 }
 
-// The row that begins at `at`, or `None` where no text is left.
+// The row that begins at `at`, or `None` where no text is left. A place and not the rest of the text is taken,
+// since faults and lines are told by their places in the whole.
 pub fn read_row(heap: Global, text: &[u8], at: usize) -> Result<Option<Row>, ReadError>
     ensures cases { Answer text.now at result }
 {
@@ -193,7 +195,8 @@ fn line_feeds(text: &[u8]) -> usize
     n
 }
 
-// 3 where the text begins with the byte-order mark EF BB BF, which is no part of its first field, else 0.
+// Where the first row begins: at 3 where the text begins with the byte-order mark EF BB BF, which is no part
+// of its first field, else at 0. It is a place and no kind.
 pub fn after_mark(text: &[u8]) -> usize
     ensures cases { ((result ≡ 3) × Marked text.now) ⊎ ((result ≡ 0) × (Marked text.now → ⊥)) }
 {

@@ -17,6 +17,7 @@ pub enum Message<'a> {
     BadInput { file: &'a str, rejection: Rejection },
 }
 
+// By hand, since of a derived one nothing is known.
 impl From<AllocError> for Message<'_> {
     ghost from_gives = { λ _ m. m ≡ Memory };
 

@@ -150,6 +150,7 @@ impl<P: Producer, M: ChunkMap<In = P::Item>> Cursor for ChunkSeq<P, M> {
 }
 
 impl<P: Producer, M: ChunkMap<In = P::Item>> BackCursor for ChunkSeq<P, M> {
+    // One text for both ends would take the cut as a parameter, and be no shorter.
     fn next_back(self) -> (ChunkSeq<P, M>, Option<M::Out>) {
         let ChunkSeq {
             inner,

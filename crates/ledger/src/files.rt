@@ -23,6 +23,7 @@ pub enum BadFile {
     Rejected { input: Input, rejection: Rejection },
 }
 
+// By hand, since clauses name the error that comes out, and of a derived one nothing is known.
 impl From<AllocError> for BadFile {
     ghost from_gives = { λ _ r. r ≡ Memory };
 

@@ -18,7 +18,7 @@ pub enum Column {
 }
 
 impl Column {
-    // The name that the header line has for it.
+    // The name that the header line has for it: a text too, since the fields there are compared with it.
     pub fn name(self) -> &'static str
         ensures value { result.now ≡ name_of self }
     {
@@ -83,7 +83,7 @@ pub struct Rejection {
     pub problem: Problem,
 }
 
-// Why a file is not taken.
+// Why a file is not taken. Each layer's error has its own cases: a place in the text, a line, a file.
 #[derive(Drop)]
 pub enum Failure {
     Memory,
@@ -98,6 +98,7 @@ impl From<Rejection> for Failure {
     }
 }
 
+// By hand, since clauses name the error that comes out, and of a derived one nothing is known.
 impl From<AllocError> for Failure {
     ghost from_gives = { λ _ r. r ≡ Memory };
 

@@ -63,7 +63,8 @@ impl Columns {
         })
     }
 
-    // The minutes and the rate, which is 0 where none is given.
+    // The minutes and the rate, which is 0 where none is given. Minutes are always given; a call of its own for
+    // columns that may not be left out would say twice which these are.
     fn read_usage(self, heap: Global, line: &Line) -> Result<Usage, Failure>
         ensures { MatchResult result (UsageRead line.now self) (AtLine line.now.number) }
     {

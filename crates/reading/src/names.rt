@@ -24,7 +24,7 @@ impl Named for String {
 }
 
 // Things in the order in which they were added, each under a name of its own, and a way to find
-// their places.
+// their places: by a tree, since a table by hashes would need a seed from outside.
 #[derive(Drop)]
 pub struct Names<T: Named> {
     list: Vec<T>,

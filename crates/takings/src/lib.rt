@@ -23,7 +23,7 @@ pub enum Answer<T> {
     Count(usize),
 }
 
-// Makes one call.
+// Makes one call. The calls are values and no closures, so that a contract speaks of every list of them.
 fn run_call<K: BackCursor>(cursor: K, call: Call) -> (K, Answer<K::Item>)
     ensures kind { call_of result.1 ≡ call }
     ensures answered { Answered (K.remaining cursor) result.1 (K.remaining result.0) }
