@@ -60,7 +60,7 @@ pub fn read_credits(heap: Global, text: &[u8]) -> Result<Names<Credit>, Failure>
     let mut credits = Names::new(heap);
     'lines: while let Some(line) = table.read(heap)? {
         let name = line.name(Column::Member, member)?;
-        let cents = line.number(heap, Column::Cents, cents)?.unwrap_or(0);
+        let cents = line.number(heap, Column::Cents, cents)?.unwrap();
         add(&mut credits, heap, name, cents, line.number)?;
     }
     Ok(credits)

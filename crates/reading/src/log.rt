@@ -63,14 +63,11 @@ impl Columns {
         })
     }
 
-    // The minutes and the rate, which is 0 where none is given. Minutes are always given; a call of its own for
-    // columns that may not be left out would say twice which these are.
+    // The minutes and the rate, which is 0 where none is given.
     fn read_usage(self, heap: Global, line: &Line) -> Result<Usage, Failure>
         ensures { MatchResult result (UsageRead line.now self) (AtLine line.now.number) }
     {
-        let minutes = line
-            .number(heap, Column::Minutes, self.minutes)?
-            .unwrap_or(0);
+        let minutes = line.number(heap, Column::Minutes, self.minutes)?.unwrap();
         let rate = line.number(heap, Column::Rate, self.rate)?.unwrap_or(0);
         Ok(Usage {
             minutes: minutes as u16,
