@@ -1,10 +1,10 @@
 // Reads comma-separated text (RFC 4180, with a bare line feed as a line end too) one row at a time.
 #![tactic(auto)]
 
-ghost use Rattle.std.specs.Prelude.{◌≡◌, ◌+◌, ◌≤◌, ◌⊎◌, ◌∷◌, length, take, Some};
+ghost use Rattle.std.specs.Prelude.{Decides, ◌≡◌, ◌+◌, ◌≤◌, ◌⊎◌, ◌∷◌, length, take, Some};
 ghost use Rattle.std.specs.List.{prefix_len};
 ghost use Rattle.csv_rows.specs.declared.ReadError.TheVariants.{Memory};
-ghost use Rattle.csv_rows.specs.Grammar.{count_of};
+ghost use Rattle.csv_rows.specs.Grammar.{Special, count_of};
 ghost use Rattle.csv_rows.specs.Reads.{Answer, FirstOf, Marked, cells, words};
 ghost use Rattle.csv_rows.specs.Parts.{FieldOf, Followed, is_plain};
 
@@ -40,7 +40,7 @@ pub enum ReadError {
     Malformed { fault: Fault, at: usize },
 }
 
-// By hand, since clauses name the error that comes out, and of a derived one nothing is known.
+// Both by hand, since clauses name the error that comes out, and of a derived one nothing is known.
 impl From<AllocError> for ReadError {
     ghost from_gives = { λ _ r. r ≡ Memory };
 
@@ -153,7 +153,8 @@ fn plain_len(text: &[u8]) -> usize
 
 // Whether `b` may stand in a field that is not quoted.
 fn is_plain(b: u8) -> bool
-    ensures { result ≡ is_plain b }
+    ensures value { result ≡ is_plain b }
+    ensures grammar { Decides result (Special b → ⊥) }
 {
     !matches!(b, b',' | b'"' | b'\r' | b'\n')
 }
@@ -216,7 +217,7 @@ pub fn column(names: &Row, name: &[u8]) -> Option<usize>
         .position(|field| field.as_slice() == name)
 }
 
-// The line, counted from 1, on which the byte at `at` stands.
+// The line, counted from 1, on which the byte at `at` stands: of the whole text, as `read_row` tells places.
 pub fn line_of(text: &[u8], at: usize) -> usize
     ensures value { result ≡ 1 + count_of 10 (take at text.now) }
 {

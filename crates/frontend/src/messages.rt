@@ -17,7 +17,7 @@ pub enum Message<'a> {
     BadInput { file: &'a str, rejection: Rejection },
 }
 
-// By hand, since of a derived one nothing is known.
+// These two by hand: the library's derive would ask a Debug of all that a message holds, which nothing prints.
 impl From<AllocError> for Message<'_> {
     ghost from_gives = { λ _ m. m ≡ Memory };
 

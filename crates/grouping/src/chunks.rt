@@ -9,7 +9,7 @@ use plumbing::board::Board;
 use plumbing::cursor::{BackCursor, Cursor};
 use plumbing::fold::fold_cursor;
 use plumbing::folder::Folder;
-use plumbing::producer::{Listed, Producer};
+use plumbing::producer::Producer;
 use plumbing::refusal::{Giver, Reason, Refusal, refuse_if};
 
 // A function of a run's list.
@@ -51,14 +51,12 @@ pub fn chunks<P: Producer, M: ChunkMap<In = P::Item>>(
     })
 }
 
-impl<P: Listed, M: ChunkMap<In = P::Item>> Listed for ChunkProducer<P, M> {
+impl<P: Producer, M: ChunkMap<In = P::Item>> Producer for ChunkProducer<P, M> {
     type Item = M::Out;
 
-    ghost items = { λ s. map (M.value s.map) (chunked s.chunk_size (P.items s.base)) };
-}
-
-impl<P: Producer, M: ChunkMap<In = P::Item>> Producer for ChunkProducer<P, M> {
     type IntoIter = ChunkSeq<P, M>;
+
+    ghost items = { λ s. map (M.value s.map) (chunked s.chunk_size (P.items s.base)) };
 
     ghost least = { λ s. run_count (P.least s.base) s.chunk_size };
 
@@ -150,7 +148,7 @@ impl<P: Producer, M: ChunkMap<In = P::Item>> Cursor for ChunkSeq<P, M> {
 }
 
 impl<P: Producer, M: ChunkMap<In = P::Item>> BackCursor for ChunkSeq<P, M> {
-    // One text for both ends would take the cut as a parameter, and be no shorter.
+    // One text for both ends would take the cut as a parameter, and its contract what the cut answers.
     fn next_back(self) -> (ChunkSeq<P, M>, Option<M::Out>) {
         let ChunkSeq {
             inner,

@@ -2,5 +2,5 @@
 #![tactic(auto)]
 
 pub mod chunks;
-pub mod runs;
+mod runs;
 pub mod step_by;

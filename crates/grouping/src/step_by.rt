@@ -9,7 +9,7 @@ use plumbing::board::Board;
 use plumbing::cursor::{BackCursor, Cursor};
 use plumbing::fold::fold_cursor;
 use plumbing::folder::Folder;
-use plumbing::producer::{Listed, Producer};
+use plumbing::producer::Producer;
 use plumbing::refusal::{Giver, Reason, Refusal, refuse_if};
 
 // The first item of each run of `step` items.
@@ -34,14 +34,12 @@ pub fn step_by<P: Producer>(
     Ok(StepByProducer { base, step })
 }
 
-impl<P: Listed> Listed for StepByProducer<P> {
+impl<P: Producer> Producer for StepByProducer<P> {
     type Item = P::Item;
 
-    ghost items = { λ s. stepped s.step (P.items s.base) };
-}
-
-impl<P: Producer> Producer for StepByProducer<P> {
     type IntoIter = StepBySeq<P>;
+
+    ghost items = { λ s. stepped s.step (P.items s.base) };
 
     ghost least = { λ s. run_count (P.least s.base) s.step };
 
@@ -109,6 +107,7 @@ impl<P: Producer> Cursor for StepBySeq<P> {
 }
 
 impl<P: Producer> BackCursor for StepBySeq<P> {
+    // One text for both ends would take the cut as a parameter, and its contract what the cut answers.
     #[tactic(auto, using(crate::proofs::Cutting::firsts_append))]
     fn next_back(self) -> (StepBySeq<P>, Option<P::Item>) {
         let StepBySeq { base, step } = self;

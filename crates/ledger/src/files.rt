@@ -48,5 +48,5 @@ pub fn settle_files(heap: Global, usage: &[u8], credits: &[u8]) -> Result<Books,
 {
     let credits = read_credits(heap, credits).map_err(|e| BadFile::of(Input::Credits, e))?;
     let log = read_log(heap, usage, &credits).map_err(|e| BadFile::of(Input::Usage, e))?;
-    Ok(settle_all(heap, credits, log)?)
+    Ok(settle_all(heap, credits.into_list(), log)?)
 }

@@ -7,14 +7,12 @@ use crate::folder::Folder;
 
 // Feeds the folder the items that remain, from the front, until it is full or nothing remains.
 pub fn fold_cursor<K: Cursor, F: Folder<Item = K::Item>>(
-    cursor: K,
-    folder: F,
+    mut cursor: K,
+    mut folder: F,
     board: &mut Board<F::Slot>,
 ) -> F
     ensures { FedAll F.Folder folder result board.old board.new (K.remaining cursor) }
 {
-    let mut cursor = cursor;
-    let mut folder = folder;
     'feed: while !folder.full(board) {
         let (rest, taken) = cursor.next();
         cursor = rest;

@@ -35,10 +35,7 @@ impl<K: Cursor> Cursor for Fuse<K> {
     }
 
     fn len(&self) -> usize {
-        match &self.cursor {
-            Some(cursor) => cursor.len(),
-            None => 0,
-        }
+        self.cursor.as_ref().map_or(0, |cursor| cursor.len())
     }
 }
 

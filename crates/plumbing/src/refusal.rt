@@ -100,12 +100,12 @@ impl fmt::Display for Reason {
     }
 }
 
-// Its name.
-impl fmt::Display for Giver {
-    ghost output = { λ giver. Some (name_of giver) };
-
-    fn fmt<W: fmt::Write>(&self, f: &mut fmt::Formatter<W>) -> fmt::Result {
-        f.write_str(match self {
+impl Giver {
+    // A method too, as a reason's word.
+    pub fn name(self) -> &'static str
+        ensures { result.now ≡ name_of self }
+    {
+        match self {
             Giver::Interleave => "interleave",
             Giver::Intersperse => "intersperse",
             Giver::Chunks => "chunks",
@@ -116,7 +116,16 @@ impl fmt::Display for Giver {
             Giver::Helpers => "helpers",
             Giver::Advance => "advance",
             Giver::Answer => "answer",
-        })
+        }
+    }
+}
+
+// Its name.
+impl fmt::Display for Giver {
+    ghost output = { λ giver. Some (name_of giver) };
+
+    fn fmt<W: fmt::Write>(&self, f: &mut fmt::Formatter<W>) -> fmt::Result {
+        f.write_str(self.name())
     }
 }
 

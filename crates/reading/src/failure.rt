@@ -90,6 +90,7 @@ pub enum Failure {
     Rejected(Rejection),
 }
 
+// All three by hand, since clauses name the error that comes out, and of a derived one nothing is known.
 impl From<Rejection> for Failure {
     ghost from_gives = { λ e r. r ≡ Rejected e };
 
@@ -98,7 +99,6 @@ impl From<Rejection> for Failure {
     }
 }
 
-// By hand, since clauses name the error that comes out, and of a derived one nothing is known.
 impl From<AllocError> for Failure {
     ghost from_gives = { λ _ r. r ≡ Memory };
 

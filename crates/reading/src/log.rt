@@ -1,14 +1,13 @@
 ghost use Rattle.std.specs.Prelude.{◌≡◌, ℕ, List, map, MatchResult, string_bytes};
 ghost use Rattle.workshop.specs.declared.usage.Usage.{Usage as Used};
 ghost use Rattle.csv_rows.specs.Reads.{cells};
-ghost use Rattle.reading.specs.Books.{NameOf, LogOf, members_of};
+ghost use Rattle.reading.specs.Books.{NameOf, LogOf};
 ghost use Rattle.reading.specs.Tables.{OnLine};
 ghost use Rattle.reading.specs.Fields.{field_of, AtLine};
 ghost use Rattle.reading.specs.Parts.{Located, UsageRead, MachineRead, EntryRead};
 
-use crate::credits::Credit;
 use crate::failure::{Column, Failure, Problem, Rejection};
-use crate::names::Names;
+use crate::names::{Named, Names};
 use crate::table::{Line, Table, place};
 use csv_rows::Row;
 use std::alloc::Global;
@@ -76,13 +75,13 @@ impl Columns {
     }
 
     // The place of a line's member.
-    fn read_member(
+    fn read_member<T: Named>(
         self,
         heap: Global,
         line: &Line,
-        members: &Names<Credit>,
+        members: &Names<T>,
     ) -> Result<usize, Failure>
-        ensures { MatchResult result (λ k. NameOf (members_of members.now) k (field_of line.now self.member)) (AtLine line.now.number) }
+        ensures { MatchResult result (λ k. NameOf (map T.name members.now) k (field_of line.now self.member)) (AtLine line.now.number) }
     {
         let name = line.name(Column::Member, self.member)?;
         let Some(i) = members.find(name) else {
@@ -113,14 +112,14 @@ impl Columns {
         Ok(place.unwrap_or(last))
     }
 
-    fn read_entry(
+    fn read_entry<T: Named>(
         self,
         heap: Global,
         line: &Line,
-        members: &Names<Credit>,
+        members: &Names<T>,
         machines: &mut Names<String>,
     ) -> Result<Entry, Failure>
-        ensures { MatchResult result (λ entry. (header : List (List ℕ)) → Located header self → EntryRead header (members_of members.now) (map string_bytes machines.old) (map string_bytes machines.new) line.now entry) (AtLine line.now.number) }
+        ensures { MatchResult result (λ entry. (header : List (List ℕ)) → Located header self → EntryRead header (map T.name members.now) (map string_bytes machines.old) (map string_bytes machines.new) line.now entry) (AtLine line.now.number) }
     {
         let member = self.read_member(heap, line, members)?;
         let machine = self.read_machine(heap, line, machines)?;
@@ -137,8 +136,8 @@ impl Columns {
 }
 
 // The log that a text holds, whose members are among those given.
-pub fn read_log(heap: Global, text: &[u8], members: &Names<Credit>) -> Result<Log, Failure>
-    ensures { MatchResult result (LogOf text.now (members_of members.now)) (OnLine text.now) }
+pub fn read_log<T: Named>(heap: Global, text: &[u8], members: &Names<T>) -> Result<Log, Failure>
+    ensures { MatchResult result (LogOf text.now (map T.name members.now)) (OnLine text.now) }
 {
     let (header, mut table) = Table::open(heap, text)?;
     let at = Columns::find(&header)?;

@@ -1,6 +1,7 @@
 ghost use Rattle.reading.specs.Fields.{WrittenUpTo};
 
 // The number that a field writes in decimal digits, if it is at most `most`.
+// A `for`, since a fold would give up in the same three ways.
 pub(crate) fn number(field: &[u8], most: u64) -> Option<u64>
     ensures cases { WrittenUpTo field.now most result }
 {

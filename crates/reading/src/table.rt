@@ -27,7 +27,7 @@ pub(crate) struct Table<'a> {
     ghost stands: { line ≡ 1 + count_of 10 (take at text.now) },
 }
 
-// The row that begins at a place, with what is wrong said by its line.
+// The row that begins at a place, with what is wrong said by its line: so the whole text is taken too.
 fn row_at(heap: Global, text: &[u8], at: usize) -> Result<Option<Row>, Failure>
     ensures { RowOk text.now at result }
 {
@@ -144,7 +144,8 @@ impl Line {
         }
     }
 
-    // The name that stands in a column.
+    // The name that stands in a column. The column and its place are two, so that a call shows which it reads
+    // and its bound is known there.
     pub(crate) fn name(&self, column: Column, i: usize) -> Result<&str, Rejection>
         ensures { NameIn self.now.number (field_of self.now i) column result }
     {

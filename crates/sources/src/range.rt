@@ -7,7 +7,7 @@ use plumbing::board::Board;
 use plumbing::cursor::{BackCursor, Cursor};
 use plumbing::fold::fold_cursor;
 use plumbing::folder::Folder;
-use plumbing::producer::{Listed, Producer};
+use plumbing::producer::Producer;
 use plumbing::refusal::Refusal;
 
 // The numbers from `start` up to `end`, without `end`. There are none where `start` is not below `end`.
@@ -32,14 +32,12 @@ fn span(start: u64, end: u64) -> usize
     end.saturating_sub(start) as usize
 }
 
-impl Listed for RangeSource {
+impl Producer for RangeSource {
     type Item = u64;
 
-    ghost items = { λ s. between s.start s.end };
-}
-
-impl Producer for RangeSource {
     type IntoIter = RangeCursor;
+
+    ghost items = { λ s. between s.start s.end };
 
     ghost least = { λ _. 1 };
 
@@ -83,8 +81,8 @@ impl Producer for RangeSource {
     }
 }
 
-// The numbers that are still to be read. It is no RangeSource: both have a `len`, and a call would
-// have to say which.
+// The numbers that are still to be read. It is no RangeSource: what is cut and what is read are two
+// kinds of things, as in the port's source.
 #[derive(Drop)]
 pub struct RangeCursor {
     start: u64,

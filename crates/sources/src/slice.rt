@@ -6,7 +6,7 @@ use plumbing::board::Board;
 use plumbing::cursor::{BackCursor, Cursor};
 use plumbing::fold::fold_cursor;
 use plumbing::folder::Folder;
-use plumbing::producer::{Listed, Producer};
+use plumbing::producer::Producer;
 use plumbing::refusal::Refusal;
 
 // A slice of plain values.
@@ -22,14 +22,12 @@ pub fn slice<'a, T: Copy>(slice: &'a [T]) -> Result<SliceSource<'a, T>, Refusal>
     Ok(SliceSource { slice })
 }
 
-impl<'a, T: Copy> Listed for SliceSource<'a, T> {
+impl<'a, T: Copy> Producer for SliceSource<'a, T> {
     type Item = T;
 
-    ghost items = { λ s. s.slice.now };
-}
-
-impl<'a, T: Copy> Producer for SliceSource<'a, T> {
     type IntoIter = SliceCursor<'a, T>;
+
+    ghost items = { λ s. s.slice.now };
 
     ghost least = { λ _. 1 };
 
@@ -61,8 +59,8 @@ impl<'a, T: Copy> Producer for SliceSource<'a, T> {
     }
 }
 
-// The part of a slice that is still to be read. It is no SliceSource: both have a `len`, and a call
-// would have to say which.
+// The part of a slice that is still to be read. It is no SliceSource: what is cut and what is read
+// are two kinds of things, as in the port's source.
 #[derive(Drop)]
 pub struct SliceCursor<'a, T> {
     rest: &'a [T],

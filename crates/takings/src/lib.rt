@@ -47,13 +47,12 @@ fn run_call<K: BackCursor>(cursor: K, call: Call) -> (K, Answer<K::Item>)
 // Makes the calls in their order, each on what the one before it left, and appends the answer of each
 // to the log. It fails only for want of memory.
 pub fn run_calls<K: BackCursor>(
-    cursor: K,
+    mut cursor: K,
     calls: &[Call],
     log: &mut Vec<Answer<K::Item>>,
 ) -> Result<K, AllocError>
     ensures { IfOk result (λ rest. Logged log.old.items log.new.items (K.remaining cursor) calls.now (K.remaining rest)) }
 {
-    let mut cursor = cursor;
     for call in calls {
         let (rest, answer) = run_call(cursor, *call);
         cursor = rest;

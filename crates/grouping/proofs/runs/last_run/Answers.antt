@@ -12,4 +12,4 @@ returns-clause-taken g c = λ pos.
     let below : (n - 1) % size < size = mod_below (n - 1) size pos in
     let parts = c.split_at-rest.ensures in
     let e = c.len-len.ensures in
-    rw (parts.left, parts.right) (chunked_last size pos k (g.P.Listed.items c.args.base) (k * size) refl (omega arith) (omega arith))
+    rw (parts.left, parts.right) (chunked_last size pos k (g.P.Producer.items c.args.base) (k * size) refl (omega arith) (omega arith))

@@ -1,5 +1,6 @@
-use Rattle.std.proofs.Common.{rules}
+use Rattle.std.proofs.Common.{subst, rules}
 use Rattle.reading.specs.Books.{CreditsOf, LogOf, members_of}
+use Rattle.ledger.specs.Billed.{Settled}
 use Rattle.ledger.proofs.files.settle_files.Goals as goal
 
 pub returns : goal.returns
@@ -8,4 +9,4 @@ returns c =
     let log = c.in_ok-log.log in
     let credits_are : CreditsOf c.args.credits.now paid = search rules in
     let log_is : LogOf c.args.usage.now (members_of paid) log = search rules in
-    record { paid = paid; log = log; credits_are = credits_are; log_is = log_is; settled = c.in_ok-settle_all.ensures }
+    record { paid = paid; log = log; credits_are = credits_are; log_is = log_is; settled = subst (λ l. Settled l log c.in_ok-settle_all.field-0) c.into_list.ensures c.in_ok-settle_all.ensures }

@@ -6,7 +6,7 @@ use Rattle.reading.proofs.Sofar.{one_entry}
 use Rattle.reading.proofs.log.read_log.Goals as goal
 
 pub lines-preserved : goal.lines-preserved
-lines-preserved c =
+lines-preserved g c =
     let inv = c.lines.invariant in
     let step = rw c.in-Some.is at c.in_ok-line.ensures.cases in
     let read = c.in_ok-entry.ensures (cells c.in_ok-header.header) c.in_ok-at.ensures in (
@@ -16,7 +16,7 @@ lines-preserved c =
     )
 
 pub returns : goal.returns
-returns c =
+returns g c =
     let log = c.lines.log in
     let sofar = c.lines.invariant.1 in
     record {
