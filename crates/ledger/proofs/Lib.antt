@@ -1,4 +1,5 @@
 pub mod Counting
+pub mod Digits
 pub mod Escapes
 pub mod Posting
 pub mod Spotting

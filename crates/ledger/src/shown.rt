@@ -13,11 +13,11 @@ pub struct Money(pub u64);
 impl fmt::Display for Money {
     ghost output = { λ m. Some (money m.0) };
 
+    #[tactic(auto, using(crate::proofs::Digits::two_digits))]
     fn fmt<W: fmt::Write>(&self, f: &mut fmt::Formatter<W>) -> fmt::Result {
         let units = self.0 / 100;
-        let tens = self.0 % 100 / 10;
-        let ones = self.0 % 10;
-        write!(f, "{units}.{tens}{ones}")
+        let cents = self.0 % 100;
+        write!(f, "{units}.{cents:02}")
     }
 }
 

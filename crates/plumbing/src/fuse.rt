@@ -40,7 +40,7 @@ impl<K: Cursor> Cursor for Fuse<K> {
 }
 
 impl<K: BackCursor> BackCursor for Fuse<K> {
-    // One text for both ends would take the taking as a parameter, and be no shorter.
+    // One text for both ends would take the taking as a parameter, and its contract what the taking answers.
     fn next_back(self) -> (Fuse<K>, Option<K::Item>) {
         let Some(cursor) = self.cursor else {
             return (Fuse { cursor: None }, None);

@@ -101,7 +101,7 @@ impl fmt::Display for Reason {
 }
 
 impl Giver {
-    // A method too, as a reason's word.
+    // A method too: its text stays, and making it can't fail.
     pub fn name(self) -> &'static str
         ensures { result.now ≡ name_of self }
     {

@@ -1,7 +1,7 @@
 -- The fields of a row or a line, as lists of bytes. Assumes nothing.
-use Rattle.std.proofs.Common.{◌+◌, drop, ◌≡◌, ℕ, ◌-◌, ◌<◌, ◌≤◌, min, Bool, true, false, eqb, List, [], ◌∷◌, map, length, get_or, take, Some, vec_items, vec_len, Decides, Vec, sym, refl, ap, ◌∙◌, ⊎_elim, arith}
-use Rattle.std.proofs.lemmas.List.{get_or-drop, get_or-map, length-drop, get_or_past, length-map, nil_from_length, take_all}
-use Rattle.std.proofs.lemmas.Bool.{both_ways, cases_lt, cases_order, eq-eqb, eqb-true}
+use Rattle.std.proofs.Common.{◌+◌, drop, ◌≡◌, ℕ, ◌-◌, ◌<◌, min, Bool, true, false, List, [], ◌∷◌, map, length, get_or, take, Some, vec_items, Vec, sym, refl, ap, ◌∙◌, ⊎_elim, arith}
+use Rattle.std.proofs.lemmas.List.{get_or-drop, get_or-map, length-drop, length-map, take_all}
+use Rattle.std.proofs.lemmas.Bool.{both_ways, cases_lt, cases_order}
 use Rattle.csv_rows.specs.Reads.{FirstOf}
 use Rattle.reading.specs.declared.failure.Column.{Column}
 use Rattle.reading.specs.Columns.{name_of}
@@ -12,33 +12,6 @@ use Rattle.reading.specs.Tables.{OnlyAt}
 
 pub field_count : {A : Type 0} {items xs : List (Vec ℕ A)} → items ≡ xs → length (map vec_items xs) ≡ length items
 field_count {A} {items} {xs} same = length-map xs vec_items ∙ ap length (sym same)
-
--- what a slice of the fields has at i is field i
-module _ {A : Type 0} {items xs : List (Vec ℕ A)} (same : items ≡ xs) (i : ℕ) where
-  pub field_at : {v : Vec ℕ A} → i < length items → v ≡ get_or items i v → get_or (map vec_items xs) i [] ≡ vec_items v
-  field_at {v} lt is =
-      get_or-map vec_items xs i v [] (omega (arith, ap length same)) ∙ ap vec_items (sym (is ∙ ap (λ l. get_or l i v) same))
-
-  pub field_past : length items ≤ i → get_or (map vec_items xs) i [] ≡ []
-  field_past le = get_or_past (map vec_items xs) i [] (omega (arith, field_count same))
-
-one_item : {A : Type 0} (items : List (Vec ℕ A)) (v : Vec ℕ A) → length items ≡ 1 → v ≡ get_or items 0 v → items ≡ v ∷ []
-one_item [] v one is = absurd (omega arith)
-one_item (x ∷ []) v one is = ap (λ y. y ∷ []) (sym is)
-one_item (x ∷ y ∷ items) v one is = absurd (omega arith)
-
--- whether the only field is empty
-module _ {A : Type 0} {items xs : List (Vec ℕ A)} (same : items ≡ xs) where
-  pub blank_if_empty : {v : Vec ℕ A} {b : Bool} → length items ≡ 1 → v ≡ get_or items 0 v → b ≡ eqb (vec_len v) 0 → Decides b (map vec_items xs ≡ [] ∷ [])
-  blank_if_empty {v} one is b-is =
-      let all : map vec_items xs ≡ vec_items v ∷ [] = ap (map vec_items) (sym same ∙ one_item items v one is) in (
-        λ yes-empty. all ∙ ap (λ f. f ∷ []) (nil_from_length (vec_items v) (sym v.ok.0 ∙ eqb-true (vec_len v) 0 (sym b-is ∙ yes-empty))),
-        λ e. b-is ∙ eq-eqb (vec_len v) 0 (v.ok.0 ∙ ap length (ap (λ fs. get_or fs 0 []) (sym all ∙ e))),
-      )
-
-  pub not_blank : (length items ≡ 1 → ⊥) → Decides false (map vec_items xs ≡ [] ∷ [])
-  not_blank other =
-      (λ e. absurd (let z : ◌≡◌ {A = ℕ} 0 1 = cc in omega arith), λ e. absurd (other (sym (field_count same) ∙ ap length e)))
 
 -- a column whose name is field i first
 module _ (fs : List (List ℕ)) (column : Column) (i : ℕ) (first : FirstOf fs (name_of column) (Some i)) where

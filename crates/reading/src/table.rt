@@ -31,14 +31,13 @@ pub(crate) struct Table<'a> {
 fn row_at(heap: Global, text: &[u8], at: usize) -> Result<Option<Row>, Failure>
     ensures { RowOk text.now at result }
 {
-    match csv_rows::read_row(heap, text, at) {
-        Ok(row) => Ok(row),
-        Err(ReadError::Memory) => Err(Failure::Memory),
-        Err(ReadError::Malformed { fault, at }) => Err(Failure::Rejected(Rejection {
+    csv_rows::read_row(heap, text, at).map_err(|e| match e {
+        ReadError::Memory => Failure::Memory,
+        ReadError::Malformed { fault, at } => Failure::Rejected(Rejection {
             line: csv_rows::line_of(text, at),
             problem: Problem::Malformed(fault),
-        })),
-    }
+        }),
+    })
 }
 
 // A line with nothing on it is passed over.
@@ -138,10 +137,7 @@ impl Line {
     fn field(&self, i: usize) -> &[u8]
         ensures { result.now ≡ field_of self.now i }
     {
-        match self.fields.get(i) {
-            Some(field) => field.as_slice(),
-            None => &[],
-        }
+        self.fields.get(i).map_or(&[][..], |field| field.as_slice())
     }
 
     // The name that stands in a column. The column and its place are two, so that a call shows which it reads
@@ -156,13 +152,10 @@ impl Line {
                 problem: Problem::NoName(column),
             });
         }
-        match std::str::from_utf8(field) {
-            Ok(name) => Ok(name),
-            Err(_) => Err(Rejection {
-                line: self.number,
-                problem: Problem::NotText(column),
-            }),
-        }
+        std::str::from_utf8(field).map_err(|_e| Rejection {
+            line: self.number,
+            problem: Problem::NotText(column),
+        })
     }
 
     // The number that stands in a column, or none where it may be left out and is.

@@ -82,7 +82,7 @@ impl Producer for RangeSource {
 }
 
 // The numbers that are still to be read. It is no RangeSource: what is cut and what is read are two
-// kinds of things, as in the port's source.
+// kinds of things, as everywhere in the port.
 #[derive(Drop)]
 pub struct RangeCursor {
     start: u64,

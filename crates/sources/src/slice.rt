@@ -60,7 +60,7 @@ impl<'a, T: Copy> Producer for SliceSource<'a, T> {
 }
 
 // The part of a slice that is still to be read. It is no SliceSource: what is cut and what is read
-// are two kinds of things, as in the port's source.
+// are two kinds of things, as everywhere in the port.
 #[derive(Drop)]
 pub struct SliceCursor<'a, T> {
     rest: &'a [T],
