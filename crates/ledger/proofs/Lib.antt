@@ -2,5 +2,4 @@ pub mod Counting
 pub mod Digits
 pub mod Escapes
 pub mod Posting
-pub mod Spotting
 pub mod Stating

@@ -1,5 +1,5 @@
 -- Names found and added. Assumes nothing.
-use Rattle.std.proofs.Common.{◌≡◌, ℕ, ◌<◌, Bool, true, false, cond, List, [], ◌∷◌, ◌++◌, length, Some, None, Option, String, sym, refl, ap, ◌∙◌, subst, inr, ⊎_elim, arith}
+use Rattle.std.proofs.Common.{◌≡◌, ℕ, Bool, true, false, cond, List, [], ◌∷◌, ◌++◌, length, Some, None, Option, String, sym, refl, ap, ◌∙◌, subst, ⊎_elim, arith}
 use Rattle.std.specs.BTreeMap.{BTreeMap, IsOrdered, get_by_text}
 use Rattle.std.specs.Map.{update}
 use Rattle.std.specs.Str.{bytes_eq}
@@ -9,7 +9,6 @@ use Rattle.std.proofs.lemmas.List.{get_or_append_left, get_or_push, length-appen
 use Rattle.std.proofs.lemmas.Bool.{cases_lt, cond-false, cond-true, false_from_ne_true}
 use Rattle.std.specs.declared.alloc.Global.{Global}
 use Rattle.reading.specs.Named.{NamedAt, Lacks, PlaceOf, Distinct, Tells}
-use Rattle.reading.specs.Parts.{MachineRead}
 
 same_some : {m n : ℕ} → Some m ≡ Some n → m ≡ n
 same_some e = cc
@@ -80,13 +79,3 @@ module _ (old new : BTreeMap (String Global) ℕ) (names : List (List ℕ)) (nam
     listed = λ k lt. told _ k (lt, refl);
     only = λ v k e. back v k (bytes_eq name v) refl (sym (sets v) ∙ e);
   }
-
--- a machine that was added
-pub added_machine : {old new : List (List ℕ)} {name field : List ℕ} {k : ℕ} → new ≡ old ++ name ∷ [] → k ≡ length old → name ≡ field → 0 < length field → Distinct new → MachineRead old new field k
-added_machine {old} {new} {name} {field} {k} grown last e some distinct =
-    let named = subst (λ l. NamedAt l k name) (sym grown) (named_last old name k last) in
-    record {
-      named = (subst (NamedAt new k) e named, some);
-      grew = inr (name, grown, last);
-      distinct = distinct;
-    }

@@ -10,9 +10,6 @@ use Rattle.std.specs.List.{HoldsAt, AllWithin}
 use Rattle.reading.specs.Named.{NamedAt}
 use Rattle.reading.specs.Tables.{OnlyAt}
 
-pub field_count : {A : Type 0} {items xs : List (Vec ℕ A)} → items ≡ xs → length (map vec_items xs) ≡ length items
-field_count {A} {items} {xs} same = length-map xs vec_items ∙ ap length (sym same)
-
 -- a column whose name is field i first
 module _ (fs : List (List ℕ)) (column : Column) (i : ℕ) (first : FirstOf fs (name_of column) (Some i)) where
   pub only_one : ((k : ℕ) → k < length fs → i < k → get_or fs k [] ≡ name_of column → ⊥) → OnlyAt fs column i

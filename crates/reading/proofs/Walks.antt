@@ -1,15 +1,12 @@
 -- Rows read one after another, and the lines on which they stand. Assumes nothing.
-use Rattle.std.proofs.Common.{◌≡◌, ℕ, ◌+◌, ◌-◌, ◌^◌, ◌<◌, ◌≤◌, min, cond, eqb, List, [], ◌∷◌, ◌++◌, length, take, drop, Err, vec_items, vec_len, sym, ap, ◌∙◌, subst, inl, inr, arith}
-use Rattle.std.proofs.lemmas.List.{drop_all, drop-take, length-drop, length-map, length-take, take-append-drop, take-take}
+use Rattle.std.proofs.Common.{◌≡◌, ℕ, ◌+◌, ◌-◌, ◌^◌, ◌<◌, ◌≤◌, min, cond, eqb, List, [], ◌∷◌, ◌++◌, length, take, drop, sym, ap, ◌∙◌, subst, inl, inr, arith}
+use Rattle.std.proofs.lemmas.List.{drop_all, drop-take, length-drop, length-take, take-append-drop, take-take}
 use Rattle.std.proofs.lemmas.List.Sums.{count_by-le-length, sum_by-append}
 use Rattle.csv_rows.specs.Grammar.{RowOf, count_of}
 use Rattle.csv_rows.specs.Reads.{RowAt, cells}
 use Rattle.csv_rows.specs.declared.Row.{Row}
-use Rattle.reading.specs.declared.failure.Failure.{Failure}
-use Rattle.reading.specs.declared.failure.Failure.TheVariants.{Memory, Rejected}
 use Rattle.reading.specs.declared.table.Table.{Table}
-use Rattle.reading.specs.Tables.{Lines, TableOf, end, blank, more, feeds, HasLine, OnLine, Begins}
-use Rattle.reading.specs.Fields.{RowOk}
+use Rattle.reading.specs.Tables.{Lines, end, blank, more, feeds, HasLine, Begins}
 
 -- the line on which the place at of text stands
 abbrev pub line_at : List ℕ → ℕ → ℕ
@@ -71,11 +68,6 @@ module _ {text : List ℕ} {at : ℕ} {row : Row} (found : RowAt text at row) (s
 pub no_lines : (width n at : ℕ) (text : List ℕ) → length text ≤ at → Lines width n (drop at text) []
 no_lines width n at text le = subst (λ s. Lines width n s []) (sym (drop_all at text le)) end
 
--- where a row is refused, the text has its line
-pub on_line : (text : List ℕ) (at : ℕ) (e : Failure) → RowOk text at (Err e) → OnLine text e
-on_line text at Memory h = tt
-on_line text at (Rejected r) h = subst (HasLine text) (sym h.4) (has_line_at text h.1)
-
 pub table_line : (table : Table) → HasLine table.text.now table.line
 table_line table = subst (HasLine table.text.now) (sym table.stands) (has_line_at table.text.now table.at)
 
@@ -91,14 +83,3 @@ module _ (text : List ℕ) {start : ℕ} {header : Row} (n : ℕ) (begins : Begi
 
   pub stands_below : n ≡ line_at text header.next
   stands_below = below_row found short 1 n (first_line text start begins) from_first
-
-  pub table_below : (width : ℕ) → width ≡ vec_len header.fields → (ls : List (ℕ × List (List ℕ))) → Lines width n (drop header.next text) ls → TableOf text (cells header) ls
-  table_below width wide ls h =
-      let fields : width ≡ length (cells header) = wide ∙ header.fields.ok.0 ∙ sym (length-map (vec_items header.fields) vec_items) in
-      record {
-        start = start;
-        begins = begins;
-        rest = drop header.next text;
-        top = found.fields;
-        below = subst (λ w. Lines w (1 + feeds (drop start text) (drop header.next text)) (drop header.next text) ls) fields (rest_below found short 1 n (first_line text start begins) from_first width h);
-      }
