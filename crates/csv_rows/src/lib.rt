@@ -129,18 +129,15 @@ fn read_quoted(heap: Global, text: &[u8]) -> Result<Option<Piece>, AllocError>
     let mut bytes = Vec::new(heap);
     let mut rest = text;
     'bytes: loop {
-        match rest {
+        // One push for both kinds of bytes, so that it is compiled into the loop.
+        let (b, more) = match rest {
             [] => return Ok(None),
-            [b'"', b'"', more @ ..] => {
-                bytes.push(b'"')?;
-                rest = more;
-            }
+            [b'"', b'"', more @ ..] => (b'"', more),
             [b'"', after @ ..] => return Ok(Some(Piece { bytes, after })),
-            [b, more @ ..] => {
-                bytes.push(*b)?;
-                rest = more;
-            }
-        }
+            [b, more @ ..] => (*b, more),
+        };
+        bytes.push(b)?;
+        rest = more;
     }
 }
 

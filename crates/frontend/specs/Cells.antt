@@ -46,7 +46,7 @@ pub record RowOf (books : Books) (m : Member) (cells : List (String Global)) : T
   pub out_is : IsSpotOf books m (out_at m.statement.standing) out
   pub first_is : IsSpotOf books m m.statement.first_missing first
   pub last_is : IsSpotOf books m m.statement.last_missing last
-  pub cells_are : map string_bytes cells ≡ escaped (string_bytes m.credit.member) ∷ decimal m.statement.records ∷ billed_text m.statement.total ∷ money m.credit.cents ∷ left_text m.statement.standing ∷ spot_text out ∷ spot_text first ∷ spot_text last ∷ []
+  pub cells_are : map string_bytes cells ≡ escaped (string_bytes m.name) ∷ decimal m.statement.records ∷ billed_text m.statement.total ∷ money m.credit.cents ∷ left_text m.statement.standing ∷ spot_text out ∷ spot_text first ∷ spot_text last ∷ []
 
 -- What the whole log comes to: its total, or why there is none.
 abbrev pub Outcome : Books → Option ℕ → List ℕ → Type 0
@@ -64,12 +64,12 @@ listed texts = cond (length texts == 0) (codes " none") (codes " " ++ join_by st
 
 -- The names of the members whose credit ran out, in their order.
 abbrev pub to_stop : List Member → List (List ℕ)
-to_stop members = map (λ m. escaped (string_bytes m.credit.member)) (all_stopped members)
+to_stop members = map (λ m. escaped (string_bytes m.name)) (all_stopped members)
 
 -- A member without a total, with why there is none.
 abbrev pub TellsWhy : Books → Member → String Global → Type 0
 TellsWhy books m t = (first : Option Spot) × IsSpotOf books m m.statement.first_missing first
-    × (string_bytes t ≡ escaped (string_bytes m.credit.member) ++ (codes " (" ++ (why_text first ++ codes ")")))
+    × (string_bytes t ≡ escaped (string_bytes m.name) ++ (codes " (" ++ (why_text first ++ codes ")")))
 
 -- A machine, with how many of its records have no rate.
 abbrev pub rateless_text : Machine → List ℕ

@@ -66,7 +66,7 @@ left_cents (Unknown k) = None
 -- The values of a member.
 pub record OfMember (books : Books) (m : Member) (v : Values) : Type 0 where
   pub kind_is : v.kind ≡ kind.Member
-  pub name_is : v.name.now ≡ string_bytes m.credit.member
+  pub name_is : v.name.now ≡ string_bytes m.name
   pub records_are : v.records ≡ Some m.statement.records
   pub billed_is : v.billed ≡ m.statement.total
   pub credit_is : v.credit ≡ Some m.credit.cents
@@ -93,7 +93,7 @@ pub record OfLog (books : Books) (v : Values) : Type 0 where
 
 -- The line of a member whose credit ran out.
 abbrev pub stop_line : Member → List ℕ
-stop_line m = short_line kind.Stop (string_bytes m.credit.member) None
+stop_line m = short_line kind.Stop (string_bytes m.name) None
 
 -- A line for each member whose credit ran out, in their order.
 abbrev pub stop_lines : List Member → List ℕ

@@ -1,10 +1,12 @@
 -- What the program's words ask for.
-use Rattle.std.specs.Prelude.{◌≡◌, ◌≢◌, ℕ, List, [], ◌∷◌, length, IfOk, IfErr, Ok, Err, codes, Result}
+use Rattle.std.specs.Prelude.{◌≡◌, ◌≢◌, ◌≤◌, ℕ, List, [], ◌∷◌, length, IfOk, IfErr, Ok, Err, codes, Result}
 use Rattle.std.specs.Borrow.{Bor}
 use Rattle.frontend.specs.declared.options.Format as format
 use Rattle.frontend.specs.declared.options.Format.TheVariants.{Text, Tsv}
 use Rattle.frontend.specs.declared.options.Source.{Source}
 use Rattle.frontend.specs.declared.options.Source.TheVariants.{Input, File}
+use Rattle.frontend.specs.declared.options.Named.{Named}
+use Rattle.frontend.specs.declared.options.Named.TheVariants.{Nothing, Usage, Both, More}
 use Rattle.frontend.specs.declared.options.Request.{Request}
 use Rattle.frontend.specs.declared.options.Request.TheVariants.{Help, Run}
 use Rattle.frontend.specs.declared.options.BadWords.{BadWords}
@@ -16,15 +18,22 @@ format_word Text = codes "text"
 format_word Tsv = codes "tsv"
 
 -- A word is read as the format that it asks for, and no other word is read.
-pub record ReadsFormat (word : Bor (List ℕ)) (r : Result format.Format BadWords) : Type 0 where
+pub record ReadsFormat (word : Bor (List ℕ)) (r : Result format.Format (Bor (List ℕ))) : Type 0 where
   pub made : IfOk r (λ f. word.now ≡ format_word f)
   pub succeeds : (f : format.Format) → word.now ≡ format_word f → r ≡ Ok f
-  pub told : IfErr r (λ e. e ≡ bad.Format word)
+  pub told : IfErr r (λ e. e ≡ word)
 
 -- A word names standard input, if it is -, and else the file of that name.
 abbrev pub Names : Bor (List ℕ) → Source → Type 0
 Names word Input = word.now ≡ codes "-"
 Names word (File name) = (name ≡ word) × (word.now ≢ codes "-")
+
+-- What is held of the sources that the words name: two of them are the files, and of more it is told how many.
+abbrev pub Counts : Named → List Source → Type 0
+Counts Nothing sources = sources ≡ []
+Counts (Usage usage) sources = sources ≡ usage ∷ []
+Counts (Both files) sources = sources ≡ files.usage ∷ files.credits ∷ []
+Counts (More n) sources = (n ≡ length sources) × (3 ≤ n)
 
 -- Two files are run, unless both are standard input; any other number of files is told.
 abbrev pub Asks : format.Format → List Source → Result Request BadWords → Type 0

@@ -8,17 +8,17 @@ use reading::failure::{Problem, Rejection};
 use std::alloc::AllocError;
 use std::{fmt, io};
 
-// Why there is no page.
+// Why there is no page. It has texts of its own, so that it may outlive the words that it tells of.
 #[derive(Drop)]
-pub enum Message<'a> {
+pub enum Message {
     Memory,
-    Words(BadWords<'a>),
-    NoFile { file: &'a str, error: io::Error },
-    BadInput { file: &'a str, rejection: Rejection },
+    Words(BadWords),
+    NoFile { file: String, error: io::Error },
+    BadInput { file: String, rejection: Rejection },
 }
 
 // These two by hand: the library's derive would ask a Debug of all that a message holds, which nothing prints.
-impl From<AllocError> for Message<'_> {
+impl From<AllocError> for Message {
     ghost from_gives = { λ _ m. m ≡ Memory };
 
     fn from(_e: AllocError) -> Self {
@@ -26,15 +26,15 @@ impl From<AllocError> for Message<'_> {
     }
 }
 
-impl<'a> From<BadWords<'a>> for Message<'a> {
+impl From<BadWords> for Message {
     ghost from_gives = { λ words m. m ≡ Words words };
 
-    fn from(words: BadWords<'a>) -> Message<'a> {
+    fn from(words: BadWords) -> Self {
         Message::Words(words)
     }
 }
 
-impl fmt::Display for Message<'_> {
+impl fmt::Display for Message {
     fn fmt<W: fmt::Write>(&self, f: &mut fmt::Formatter<W>) -> fmt::Result {
         match self {
             Message::Memory => f.write_str("there is not enough memory"),

@@ -1,10 +1,12 @@
 // The words that the program is given.
-ghost use Rattle.frontend.specs.Words.{Asks};
+ghost use Rattle.std.specs.Prelude.{◌+◌, ◌<◌, ◌^◌, List, [], ◌∷◌, ◌++◌, length};
+ghost use Rattle.frontend.specs.declared.options.Source.{Source};
+ghost use Rattle.frontend.specs.Words.{Asks, Counts};
 
 use crate::messages::Message;
 use ledger::files::Input;
 use ledger::shown::Count;
-use std::alloc::{AllocError, Global};
+use std::alloc::Global;
 use std::fmt;
 
 pub(crate) const HELP: &str =
@@ -27,18 +29,19 @@ pub(crate) enum Format {
     Tsv,
 }
 
+// What is not read as a format is given back.
 impl<'a> TryFrom<&'a str> for Format {
     ghost use Rattle.frontend.specs.Words.{ReadsFormat};
 
-    type Error = BadWords<'a>;
+    type Error = &'a str;
 
     ghost try_from_gives = { ReadsFormat };
 
-    fn try_from(word: &'a str) -> Result<Format, BadWords<'a>> {
+    fn try_from(word: &'a str) -> Result<Format, &'a str> {
         match word {
             "text" => Ok(Format::Text),
             "tsv" => Ok(Format::Tsv),
-            _ => Err(BadWords::Format(word)),
+            _ => Err(word),
         }
     }
 }
@@ -96,17 +99,17 @@ pub(crate) enum Request<'a> {
     Run { format: Format, files: Files<'a> },
 }
 
-// Why the words are not taken.
-#[derive(Clone, Copy, PartialEq, Eq, Debug)]
-pub enum BadWords<'a> {
-    Unknown(&'a str),
-    Format(&'a str),
+// Why the words are not taken. It has texts of its own, so that it may outlive the words.
+#[derive(PartialEq, Eq, Debug, Drop)]
+pub enum BadWords {
+    Unknown(String),
+    Format(String),
     FormatMissing,
     Files(usize),
     InputTwice,
 }
 
-impl fmt::Display for BadWords<'_> {
+impl fmt::Display for BadWords {
     fn fmt<W: fmt::Write>(&self, f: &mut fmt::Formatter<W>) -> fmt::Result {
         match self {
             BadWords::Unknown(word) => write!(
@@ -134,38 +137,67 @@ impl fmt::Display for BadWords<'_> {
     }
 }
 
-fn run_request<'a>(format: Format, named: &[Source<'a>]) -> Result<Request<'a>, BadWords<'a>>
-    ensures { Asks format named.now result }
-{
-    match named {
-        [Source::Input, Source::Input] => Err(BadWords::InputTwice),
-        [usage, credits] => Ok(Request::Run {
-            format,
-            files: Files {
-                usage: *usage,
-                credits: *credits,
-            },
-        }),
-        _ => Err(BadWords::Files(named.len())),
+// The files that the words name so far. They are held without memory of their own, so that none can be wanting.
+#[derive(Clone, Copy, PartialEq, Eq, Debug)]
+enum Named<'a> {
+    Nothing,
+    Usage(Source<'a>),
+    Both(Files<'a>),
+    More(usize),
+}
+
+impl<'a> Named<'a> {
+    fn with(self, source: Source<'a>) -> Named<'a>
+        ensures { (sources : List Source) → length sources + 1 < 2 ^ 64 → Counts self.entry sources → Counts result (sources ++ source.entry ∷ []) }
+    {
+        match self {
+            Named::Nothing => Named::Usage(source),
+            Named::Usage(usage) => Named::Both(Files {
+                usage,
+                credits: source,
+            }),
+            Named::Both(_) => Named::More(3),
+            Named::More(files) => Named::More(files.saturating_add(1)),
+        }
     }
 }
 
-pub(crate) fn parse<'a>(heap: Global, words: &'a [String]) -> Result<Request<'a>, Message<'a>> {
+fn run_request<'a>(format: Format, named: Named<'a>) -> Result<Request<'a>, BadWords>
+    ensures { (sources : List Source) → Counts named.entry sources → Asks format sources result }
+{
+    match named {
+        Named::Nothing => Err(BadWords::Files(0)),
+        Named::Usage(_) => Err(BadWords::Files(1)),
+        Named::Both(
+            Files {
+                usage: Source::Input,
+                credits: Source::Input,
+            },
+        ) => Err(BadWords::InputTwice),
+        Named::Both(files) => Ok(Request::Run { format, files }),
+        Named::More(files) => Err(BadWords::Files(files)),
+    }
+}
+
+pub(crate) fn parse<'a>(heap: Global, words: &'a [String]) -> Result<Request<'a>, Message> {
     let mut format = Format::Text;
-    let mut named = Vec::new(heap);
+    let mut named = Named::Nothing;
     let mut words = words.iter();
     while let Some(word) = words.next() {
         match word.as_str() {
             "--help" => return Ok(Request::Help),
             "--format" => {
                 let name = words.next().ok_or(BadWords::FormatMissing)?;
-                format = Format::try_from(name.as_str())?;
+                format = match Format::try_from(name.as_str()) {
+                    Ok(format) => format,
+                    Err(word) => return Err(BadWords::Format(String::from_str(heap, word)?).into()),
+                };
             }
             word if word.starts_with('-') && word != "-" => {
-                return Err(BadWords::Unknown(word).into());
+                return Err(BadWords::Unknown(String::from_str(heap, word)?).into());
             }
-            word => named.push(Source::from(word)).map_err(AllocError::from)?,
+            word => named = named.with(Source::from(word)),
         }
     }
-    Ok(run_request(format, named.as_slice())?)
+    Ok(run_request(format, named)?)
 }

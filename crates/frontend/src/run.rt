@@ -27,39 +27,39 @@ fn bytes_of(rt: &HostRuntime, source: Source<'_>) -> io::Result<Vec<u8>> {
     }
 }
 
-fn read_source<'a>(rt: &HostRuntime, source: Source<'a>) -> Result<Vec<u8>, Message<'a>> {
-    bytes_of(rt, source).map_err(|error| Message::NoFile {
-        file: source.name(),
-        error,
-    })
-}
-
-// What is said where one of the two files is not taken.
-fn refusal<'a>(files: Files<'a>, bad: BadFile) -> Message<'a> {
-    match bad {
-        BadFile::Memory => Message::Memory,
-        BadFile::Rejected { input, rejection } => Message::BadInput {
-            file: files.source(input).name(),
-            rejection,
-        },
+fn read_source(rt: &HostRuntime, source: Source<'_>) -> Result<Vec<u8>, Message> {
+    match bytes_of(rt, source) {
+        Ok(bytes) => Ok(bytes),
+        Err(error) => Err(Message::NoFile {
+            file: String::from_str(rt.alloc(), source.name())?,
+            error,
+        }),
     }
 }
 
-fn settled_page<'a>(
-    rt: &HostRuntime,
-    format: Format,
-    files: Files<'a>,
-) -> Result<String, Message<'a>> {
+// What is said where one of the two files is not taken.
+fn refusal(heap: Global, files: Files<'_>, bad: BadFile) -> Result<Message, AllocError> {
+    Ok(match bad {
+        BadFile::Memory => Message::Memory,
+        BadFile::Rejected { input, rejection } => Message::BadInput {
+            file: String::from_str(heap, files.source(input).name())?,
+            rejection,
+        },
+    })
+}
+
+fn settled_page(rt: &HostRuntime, format: Format, files: Files<'_>) -> Result<String, Message> {
     let heap = rt.alloc();
     let credits = read_source(rt, files.credits)?;
     let usage = read_source(rt, files.usage)?;
-    let settled = settle_files(heap, usage.as_slice(), credits.as_slice());
-    let books = settled.map_err(|bad| refusal(files, bad))?;
-    Ok(page(heap, &books, format)?)
+    match settle_files(heap, usage.as_slice(), credits.as_slice()) {
+        Ok(books) => Ok(page(heap, &books, format)?),
+        Err(bad) => Err(refusal(heap, files, bad)?),
+    }
 }
 
 // What the program prints for these words.
-pub fn answer<'a>(rt: &HostRuntime, words: &'a [String]) -> Result<String, Message<'a>> {
+pub fn answer(rt: &HostRuntime, words: &[String]) -> Result<String, Message> {
     let heap = rt.alloc();
     match parse(heap, words)? {
         Request::Help => Ok(String::from_str(heap, HELP)?),

@@ -63,12 +63,13 @@ fn member_row(heap: Global, books: &Books, member: &Member) -> Result<[String; 8
     ensures made { IfOk result (RowOf books.now member.now) }
 {
     let Member {
+        name,
         credit,
         account,
         statement,
     } = member;
     Ok([
-        Escaped(credit.member.as_str()).to_string(heap)?,
+        Escaped(name.as_str()).to_string(heap)?,
         statement.records.to_string(heap)?,
         billed(heap, statement.total)?,
         Money(credit.cents).to_string(heap)?,
@@ -120,14 +121,15 @@ fn log_line(heap: Global, books: &Books) -> Result<String, AllocError>
     format!(in heap; "whole log: {records}, {members}, {outcome}\n")
 }
 
-// A line that lists texts after a title.
-fn list_line(heap: Global, title: &str, texts: &[String]) -> Result<String, AllocError>
-    ensures made { IfOk result (λ t. string_bytes t ≡ title.now ++ (listed texts.now ++ (10 ∷ []))) }
+// A line that lists texts after a title. The texts go before the line is made.
+fn list_line(heap: Global, title: &str, texts: Vec<String>) -> Result<String, AllocError>
+    ensures made { IfOk result (λ t. string_bytes t ≡ title.now ++ (listed texts.items ++ (10 ∷ []))) }
 {
     if texts.is_empty() {
         return format!(in heap; "{title} none\n");
     }
     let listed = texts.join(heap, ", ")?;
+    drop(texts);
     format!(in heap; "{title} {listed}\n")
 }
 
@@ -138,7 +140,7 @@ fn tokens_to_stop(heap: Global, books: &Books) -> Result<Vec<String>, AllocError
         .members
         .iter()
         .filter(|member| member.statement.standing.ran_out().is_some())
-        .map(|member| Escaped(member.credit.member.as_str()).to_string(heap))
+        .map(|member| Escaped(member.name.as_str()).to_string(heap))
         .try_collect(heap)
 }
 
@@ -146,7 +148,7 @@ fn tokens_to_stop(heap: Global, books: &Books) -> Result<Vec<String>, AllocError
 fn totalless(heap: Global, books: &Books, member: &Member) -> Result<String, AllocError>
     ensures made { IfOk result (TellsWhy books.now member.now) }
 {
-    let name = Escaped(member.credit.member.as_str());
+    let name = Escaped(member.name.as_str());
     let first = books.spot_of(&member.account, member.statement.first_missing);
     let why = no_total(heap, first)?;
     format!(in heap; "{name} ({why})")
@@ -178,19 +180,16 @@ fn without_rate(heap: Global, books: &Books) -> Result<Vec<String>, AllocError>
         .try_collect(heap)
 }
 
+// The page grows part by part, and each part goes once it is there, so that no two stand in memory beside it.
 pub fn page(heap: Global, books: &Books) -> Result<String, AllocError> {
-    let members = member_grid(heap, books)?;
-    let log = log_line(heap, books)?;
-    let stop = list_line(heap, "tokens to stop:", &tokens_to_stop(heap, books)?)?;
-    let no_total = list_line(
-        heap,
-        "members without a total:",
-        &without_total(heap, books)?,
-    )?;
-    let no_rate = list_line(
-        heap,
-        "machines without a rate:",
-        &without_rate(heap, books)?,
-    )?;
-    format!(in heap; "{members}\n{log}{stop}{no_total}{no_rate}")
+    let mut page = member_grid(heap, books)?.to_string(heap)?;
+    page.push_str("\n")?;
+    page.push_str(log_line(heap, books)?.as_str())?;
+    let stop = tokens_to_stop(heap, books)?;
+    page.push_str(list_line(heap, "tokens to stop:", stop)?.as_str())?;
+    let no_total = without_total(heap, books)?;
+    page.push_str(list_line(heap, "members without a total:", no_total)?.as_str())?;
+    let no_rate = without_rate(heap, books)?;
+    page.push_str(list_line(heap, "machines without a rate:", no_rate)?.as_str())?;
+    Ok(page)
 }

@@ -134,13 +134,14 @@ impl<'a> Values<'a> {
         ensures { OfMember books.now member.now result }
     {
         let Member {
+            name,
             credit,
             account,
             statement,
         } = member;
         Values {
             kind: Kind::Member,
-            name: credit.member.as_str(),
+            name: name.as_str(),
             records: Some(statement.records as u64),
             billed: statement.total,
             credit: Some(credit.cents),
@@ -179,7 +180,7 @@ fn push_stops(books: &Books, page: &mut String) -> Result<(), AllocError>
 {
     for member in &books.members {
         if member.statement.standing.ran_out().is_some() {
-            let values = Values::bare(Kind::Stop, member.credit.member.as_str());
+            let values = Values::bare(Kind::Stop, member.name.as_str());
             write!(page, "{values}")?;
         }
     }

@@ -4,7 +4,7 @@ ghost use Rattle.plumbing.specs.Makers.{Outcome, OverOne};
 ghost use Rattle.plumbing.specs.Refusals.{zero_size};
 ghost use Rattle.grouping.specs.Runs.{chunked, run_count};
 
-use crate::runs::{cut_runs, first_run, last_run};
+use crate::runs::{cut_runs, next_back_run, next_run};
 use plumbing::board::Board;
 use plumbing::cursor::{BackCursor, Cursor};
 use plumbing::fold::fold_cursor;
@@ -129,7 +129,7 @@ impl<P: Producer, M: ChunkMap<In = P::Item>> Cursor for ChunkSeq<P, M> {
             chunk_size,
             map,
         } = self;
-        let (inner, run) = first_run(inner, chunk_size);
+        let (inner, run) = next_run(inner, chunk_size);
         let value = run.map(|run| map.map(run.into_iter()));
         (
             ChunkSeq {
@@ -155,7 +155,7 @@ impl<P: Producer, M: ChunkMap<In = P::Item>> BackCursor for ChunkSeq<P, M> {
             chunk_size,
             map,
         } = self;
-        let (inner, run) = last_run(inner, chunk_size);
+        let (inner, run) = next_back_run(inner, chunk_size);
         let value = run.map(|run| map.map(run.into_iter()));
         (
             ChunkSeq {

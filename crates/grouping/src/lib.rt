@@ -2,5 +2,5 @@
 #![tactic(auto)]
 
 pub mod chunks;
-mod runs;
+pub mod runs;
 pub mod step_by;

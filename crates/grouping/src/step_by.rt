@@ -4,7 +4,7 @@ ghost use Rattle.plumbing.specs.Makers.{Outcome, OverOne};
 ghost use Rattle.plumbing.specs.Refusals.{zero_size};
 ghost use Rattle.grouping.specs.Runs.{run_count, stepped, Places};
 
-use crate::runs::{cut_runs, first_run, last_run};
+use crate::runs::{cut_runs, next_back_run, next_run};
 use plumbing::board::Board;
 use plumbing::cursor::{BackCursor, Cursor};
 use plumbing::fold::fold_cursor;
@@ -95,7 +95,7 @@ impl<P: Producer> Cursor for StepBySeq<P> {
 
     fn next(self) -> (StepBySeq<P>, Option<P::Item>) {
         let StepBySeq { base, step } = self;
-        let (base, run) = first_run(base, step);
+        let (base, run) = next_run(base, step);
         let taken = run.and_then(|run| run.into_iter().next().1);
         (StepBySeq { base, step }, taken)
     }
@@ -111,7 +111,7 @@ impl<P: Producer> BackCursor for StepBySeq<P> {
     #[tactic(auto, using(crate::proofs::Cutting::firsts_append))]
     fn next_back(self) -> (StepBySeq<P>, Option<P::Item>) {
         let StepBySeq { base, step } = self;
-        let (base, run) = last_run(base, step);
+        let (base, run) = next_back_run(base, step);
         let taken = run.and_then(|run| run.into_iter().next().1);
         (StepBySeq { base, step }, taken)
     }

@@ -46,7 +46,7 @@ impl BadFile {
 pub fn settle_files(heap: Global, usage: &[u8], credits: &[u8]) -> Result<Books, BadFile>
     ensures { MatchResult result (BooksOf usage.now credits.now) (Refused usage.now credits.now) }
 {
-    let credits = read_credits(heap, credits).map_err(|e| BadFile::of(Input::Credits, e))?;
-    let log = read_log(heap, usage, &credits).map_err(|e| BadFile::of(Input::Usage, e))?;
-    Ok(settle_all(heap, credits.into_list(), log)?)
+    let payers = read_credits(heap, credits).map_err(|e| BadFile::of(Input::Credits, e))?;
+    let log = read_log(heap, usage, &payers).map_err(|e| BadFile::of(Input::Usage, e))?;
+    Ok(settle_all(heap, payers.into_list(), log)?)
 }

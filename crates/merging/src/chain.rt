@@ -70,8 +70,9 @@ impl<A: Producer, B: Producer<Item = A::Item>> Producer for ChainProducer<A, B> 
         let ChainProducer { a, b } = self;
         // within a, or all of a and then within b
         let cut = index.min(a.len());
+        let rest = (index - cut).min(b.len());
         let (a_left, a_right) = a.split_at(cut);
-        let (b_left, b_right) = b.split_at(index - cut);
+        let (b_left, b_right) = b.split_at(rest);
         (
             ChainProducer {
                 a: a_left,

@@ -122,7 +122,9 @@ impl<I: Producer, J: Producer<Item = I::Item>> Producer for InterleaveProducer<I
 
     fn split_at(self, index: usize) -> (InterleaveProducer<I, J>, InterleaveProducer<I, J>) {
         let InterleaveProducer { i, j, i_next } = self;
-        let split = deal(index, i.len(), j.len(), i_next);
+        let i_len = i.len();
+        let j_len = j.len();
+        let split = deal(index.min(i_len + j_len), i_len, j_len, i_next);
         let (i_left, i_right) = i.split_at(split.i);
         let (j_left, j_right) = j.split_at(split.j);
         (

@@ -1,5 +1,5 @@
 // The trait Producer, a list of items that can be cut.
-ghost use Rattle.std.specs.Prelude.{◌≡◌, ℕ, List, length, take, drop};
+ghost use Rattle.std.specs.Prelude.{◌≡◌, ℕ, ◌≤◌, List, length, take, drop};
 ghost use Rattle.plumbing.specs.Feeding.{FedAll};
 
 use crate::board::Board;
@@ -30,10 +30,10 @@ pub trait Producer: Drop {
     fn len(&self) -> usize
         ensures { result ≡ length (items self.now) };
 
-    // The first items, as many as the index says, and the rest; past the end all of them, and none.
+    // The first items, as many as the index says, and the rest. Past the end nothing is asked of a source.
     fn split_at(self, index: usize) -> (Self, Self)
-        ensures left { items result.0 ≡ take index (items self) }
-        ensures right { items result.1 ≡ drop index (items self) };
+        ensures left { index ≤ length (items self) → items result.0 ≡ take index (items self) }
+        ensures right { index ≤ length (items self) → items result.1 ≡ drop index (items self) };
 
     // Feeds the items to a folder, from the front, and stops early only when the folder is full. It has no body here:
     // the port writes out what its source leaves to a default.

@@ -2,7 +2,7 @@
 use Rattle.std.proofs.Common.{◌≡◌, ℕ, ◌<◌, List, [], ◌∷◌, ◌++◌, map, length, get_or, sym, ap, ◌∙◌, subst, inl, inr, ⊎_elim, append_assoc, arith}
 use Rattle.std.proofs.lemmas.List.{get_or_append_left, get_or_push, length-map, length_push, map_push}
 use Rattle.std.proofs.lemmas.Bool.{cases_lt}
-use Rattle.reading.specs.declared.credits.Credit.{Credit}
+use Rattle.reading.specs.declared.credits.Payer.{Payer}
 use Rattle.reading.specs.declared.log.Entry.{Entry}
 use Rattle.reading.specs.declared.table.Line.{Line}
 use Rattle.reading.specs.declared.table.Table.{Table}
@@ -89,13 +89,13 @@ one_entry {text} {header} {members} {table} {new} {es} {entries} {before} {after
     }
 
 -- the credits have what the lines seen say
-pub record CreditsSofar (text : List ℕ) (header : List (List ℕ)) (table : Table) (credits : List Credit) : Type 0 where
+pub record CreditsSofar (text : List ℕ) (header : List (List ℕ)) (table : Table) (payers : List Payer) : Type 0 where
   pub seen : List (ℕ × List (List ℕ))
   pub left : Seen text header seen table
-  pub list : Pairwise (CreditOf header) seen credits
+  pub list : Pairwise (CreditOf header) seen payers
 
-pub one_credit : {text : List ℕ} {header : List (List ℕ)} {table later : Table} {old new : List Credit} {line : Line} {credit : Credit} → CreditsSofar text header table old → Step table later line → new ≡ old ++ credit ∷ [] → CreditOf header (line.number, fields_of line) credit → CreditsSofar text header later new
-one_credit {text} {header} {table} {later} {old} {new} {line} {credit} sofar step added what =
+pub one_credit : {text : List ℕ} {header : List (List ℕ)} {table later : Table} {old new : List Payer} {line : Line} {payer : Payer} → CreditsSofar text header table old → Step table later line → new ≡ old ++ payer ∷ [] → CreditOf header (line.number, fields_of line) payer → CreditsSofar text header later new
+one_credit {text} {header} {table} {later} {old} {new} {line} {payer} sofar step added what =
     let l : ℕ × List (List ℕ) = (line.number, fields_of line) in
     record {
       seen = sofar.seen ++ l ∷ [];

@@ -1,6 +1,6 @@
 -- What the two files say. Assumes nothing.
 use Rattle.std.specs.Prelude.{◌≡◌, ℕ, ◌<◌, ◌⊎◌, List, [], ◌∷◌, map, length, Some, None, vec_items, string_bytes, Option, slice_index}
-use Rattle.reading.specs.declared.credits.Credit.{Credit}
+use Rattle.reading.specs.declared.credits.Payer.{Payer}
 use Rattle.reading.specs.declared.failure.Column.TheVariants.{Member, Machine, Start, Minutes, Rate, Cents}
 use Rattle.reading.specs.declared.log.Entry.{Entry}
 use Rattle.reading.specs.declared.log.Log.{Log}
@@ -51,19 +51,19 @@ pub record LogOf (text : List ℕ) (members : List (List ℕ)) (log : Log) : Typ
   pub used : Used (length log.machines) (vec_items log.entries)
 
 -- the members of the credits
-abbrev pub members_of : List Credit → List (List ℕ)
-members_of credits = map (λ c. string_bytes c.member) credits
+abbrev pub members_of : List Payer → List (List ℕ)
+members_of payers = map (λ p. string_bytes p.member) payers
 
--- credit is what a line of the credits says
-pub record CreditOf (header : List (List ℕ)) (line : ℕ × List (List ℕ)) (credit : Credit) : Type 0 where
-  pub number : credit.line ≡ line.0
-  pub member : Under header line.1 Member (λ field. (field ≡ string_bytes credit.member) × (0 < length field))
-  pub cents : Under header line.1 Cents (λ field. Writes field credit.cents)
+-- payer has the credit that a line of the credits says
+pub record CreditOf (header : List (List ℕ)) (line : ℕ × List (List ℕ)) (payer : Payer) : Type 0 where
+  pub number : payer.credit.line ≡ line.0
+  pub member : Under header line.1 Member (λ field. (field ≡ string_bytes payer.member) × (0 < length field))
+  pub cents : Under header line.1 Cents (λ field. Writes field payer.credit.cents)
 
--- credits is what text says: a credit for each of its lines, and no member twice
-pub record CreditsOf (text : List ℕ) (credits : List Credit) : Type 0 where
+-- payers have what text says: one for each of its lines, and no member twice
+pub record CreditsOf (text : List ℕ) (payers : List Payer) : Type 0 where
   pub header : List (List ℕ)
   pub lines : List (ℕ × List (List ℕ))
   pub table : TableOf text header lines
-  pub list : Pairwise (CreditOf header) lines credits
-  pub members : Distinct (members_of credits)
+  pub list : Pairwise (CreditOf header) lines payers
+  pub members : Distinct (members_of payers)

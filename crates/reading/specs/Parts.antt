@@ -2,6 +2,7 @@
 use Rattle.std.specs.Prelude.{◌≡◌, ℕ, ◌⊎◌, List, [], ◌∷◌, ◌++◌, length, Ok, Err, Result, string_bytes}
 use Rattle.workshop.specs.declared.usage.Usage.{Usage}
 use Rattle.reading.specs.declared.credits.Credit.{Credit}
+use Rattle.reading.specs.declared.credits.Payer.{Payer}
 use Rattle.reading.specs.declared.failure.Column.TheVariants.{Member, Machine, Start, Minutes, Rate}
 use Rattle.reading.specs.declared.failure.Failure.{Failure}
 use Rattle.reading.specs.declared.log.Columns.{Columns}
@@ -43,7 +44,7 @@ pub record EntryRead (header members old new : List (List ℕ)) (line : Line) (e
   pub distinct : Distinct new
 
 -- what is answered where a line's credit is added: it is the last, and no member has two
-abbrev pub CreditAdded : List Credit → List Credit → List ℕ → ℕ → ℕ → Result (Unit {0}) Failure → Type 0
-CreditAdded old new member cents line (Ok u) =
-    (credit : Credit) × (string_bytes credit.member ≡ member) × (credit.cents ≡ cents) × (credit.line ≡ line) × (new ≡ old ++ credit ∷ []) × Distinct (members_of new)
-CreditAdded old new member cents line (Err e) = AtLine line e
+abbrev pub CreditAdded : List Payer → List Payer → List ℕ → Credit → Result (Unit {0}) Failure → Type 0
+CreditAdded old new member credit (Ok u) =
+    (payer : Payer) × (string_bytes payer.member ≡ member) × (payer.credit ≡ credit) × (new ≡ old ++ payer ∷ []) × Distinct (members_of new)
+CreditAdded old new member credit (Err e) = AtLine credit.line e

@@ -9,15 +9,21 @@ use crate::table::{Table, place};
 use std::alloc::Global;
 
 // What a member may spend, and the line that says so.
-#[derive(Drop)]
+#[derive(Clone, Copy)]
 pub struct Credit {
-    pub member: String,
     pub cents: u64,
     pub line: usize,
 }
 
-impl Named for Credit {
-    ghost name = { λ c. string_bytes c.member };
+// A member, and the member's credit.
+#[derive(Drop)]
+pub struct Payer {
+    pub member: String,
+    pub credit: Credit,
+}
+
+impl Named for Payer {
+    ghost name = { λ p. string_bytes p.member };
 
     fn name(&self) -> &str {
         self.member.as_str()
@@ -25,43 +31,40 @@ impl Named for Credit {
 }
 
 // Adds what a line says of a member who has no line yet.
-fn add(
-    credits: &mut Names<Credit>,
-    heap: Global,
-    member: &str,
-    cents: u64,
-    line: usize,
-) -> Result<(), Failure>
-    ensures { CreditAdded credits.old credits.new member.now cents line result }
+fn add(payers: &mut Names<Payer>, heap: Global, member: &str, credit: Credit) -> Result<(), Failure>
+    ensures { CreditAdded payers.old payers.new member.now credit result }
 {
-    let credit = Credit {
+    let payer = Payer {
         member: String::from_str(heap, member)?,
-        cents,
-        line,
+        credit,
     };
-    let Some(place) = credits.add(heap, credit)? else {
+    let Some(place) = payers.add(heap, payer)? else {
         return Ok(());
     };
-    let first = credits.list()[place].line;
+    let first = payers.list()[place].credit.line;
     let member = String::from_str(heap, member)?;
     Err(Failure::Rejected(Rejection {
-        line,
+        line: credit.line,
         problem: Problem::CreditTwice { member, first },
     }))
 }
 
 // The credits that a text holds, by their members, in the order of its lines.
-pub fn read_credits(heap: Global, text: &[u8]) -> Result<Names<Credit>, Failure>
+pub fn read_credits(heap: Global, text: &[u8]) -> Result<Names<Payer>, Failure>
     ensures { MatchResult result (CreditsOf text.now) (OnLine text.now) }
 {
     let (header, mut table) = Table::open(heap, text)?;
     let member = place(&header, Column::Member)?;
     let cents = place(&header, Column::Cents)?;
-    let mut credits = Names::new(heap);
+    let mut payers = Names::new(heap);
     'lines: while let Some(line) = table.read(heap)? {
         let name = line.name(Column::Member, member)?;
         let cents = line.number(heap, Column::Cents, cents)?.unwrap();
-        add(&mut credits, heap, name, cents, line.number)?;
+        let credit = Credit {
+            cents,
+            line: line.number,
+        };
+        add(&mut payers, heap, name, credit)?;
     }
-    Ok(credits)
+    Ok(payers)
 }

@@ -107,9 +107,7 @@ impl Columns {
         if let Some(i) = machines.find(name) {
             return Ok(i);
         }
-        let last = machines.list().len();
-        let place = machines.add(heap, String::from_str(heap, name)?)?;
-        Ok(place.unwrap_or(last))
+        Ok(machines.push(heap, String::from_str(heap, name)?)?)
     }
 
     fn read_entry<T: Named>(

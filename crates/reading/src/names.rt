@@ -1,5 +1,5 @@
-ghost use Rattle.std.specs.Prelude.{◌≡◌, ℕ, List, [], map, IfOk, OnOk};
-ghost use Rattle.reading.specs.Named.{PlaceOf, Added, Distinct};
+ghost use Rattle.std.specs.Prelude.{◌≡◌, ℕ, List, [], ◌∷◌, ◌++◌, length, map, IfOk, OnOk};
+ghost use Rattle.reading.specs.Named.{PlaceOf, Added, Distinct, Lacks};
 
 use std::alloc::{AllocError, Global};
 use std::collections::BTreeMap;
@@ -79,9 +79,19 @@ impl<T: Named> Names<T> {
         ensures added { IfOk result (λ there. Added T.name self.old self.new item there) }
         ensures distinct { OnOk result (Distinct (map T.name self.new)) }
     {
-        if let Some(place) = self.places.get(item.name()).copied() {
+        if let Some(place) = self.find(item.name()) {
             return Ok(Some(place));
         }
+        self.push(heap, item)?;
+        Ok(None)
+    }
+
+    // Adds a thing at the end, whose name is not there, and tells its place: the tree is not asked again.
+    pub(crate) fn push(&mut self, heap: Global, item: T) -> Result<usize, AllocError>
+        requires { Lacks (map T.name self.old) (T.name item) }
+        ensures added { IfOk result (λ place. (place ≡ length self.old) × (self.new ≡ self.old ++ item ∷ [])) }
+        ensures distinct { OnOk result (Distinct (map T.name self.new)) }
+    {
         let name = String::from_str(heap, item.name())?;
         let place = self.list.len();
         self.list.push(item)?;
@@ -89,6 +99,6 @@ impl<T: Named> Names<T> {
             self.list.truncate(place);
             return Err(AllocError::from(e));
         }
-        Ok(None)
+        Ok(place)
     }
 }

@@ -163,6 +163,7 @@ impl<P: Producer> Producer for IntersperseProducer<P> {
     }
 
     fn split_at(self, index: usize) -> (IntersperseProducer<P>, IntersperseProducer<P>) {
+        let index = index.min(self.len());
         let IntersperseProducer {
             base,
             item,

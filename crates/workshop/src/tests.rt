@@ -19,7 +19,7 @@ fn amounts_add_up_or_are_a_fault(rt: HostRuntime) {
     assert_eq!(rt; total(&[Some(200), Some(300)]), Some(500));
     assert_eq!(rt; add(Some(u64::MAX), Some(1)), None);
     assert_eq!(rt; add(Some(u64::MAX), Some(0)), Some(u64::MAX));
-    assert_eq!(rt; total::<Option<u64>>(&[]), Some(0));
+    assert_eq!(rt; total(&[]), Some(0));
     assert_eq!(rt; total(&[Some(1), None, Some(2)]), None);
 }
 

@@ -6,7 +6,7 @@ use Rattle.reading.proofs.Sofar.{CreditsSofar}
 use Rattle.reading.proofs.credits.read_credits.Given as goal
 
 abbrev pub invariant-lines : goal.invariant-lines
-invariant-lines l = (l.table.text.now ≡ l.text) × CreditsSofar l.text (cells l.header) l.table l.credits × Distinct (members_of l.credits)
+invariant-lines l = (l.table.text.now ≡ l.text) × CreditsSofar l.text (cells l.header) l.table l.payers × Distinct (members_of l.payers)
 
 abbrev pub decreases-lines : goal.decreases-lines
 decreases-lines l = length l.table.text.now - l.table.at

@@ -10,6 +10,6 @@ returns g c =
     let runs = chunked s.chunk_size (g.P.Producer.items s.base) in
     let parts = c.cut_runs-left.ensures in
     record {
-      left = ap (map v) (parts.left s.positive) ∙ sym (take-map v c.args.index runs);
-      right = ap (map v) (parts.right s.positive) ∙ sym (drop-map v c.args.index runs);
+      left = λ _. ap (map v) (parts.left s.positive) ∙ sym (take-map v c.args.index runs);
+      right = λ _. ap (map v) (parts.right s.positive) ∙ sym (drop-map v c.args.index runs);
     }

@@ -10,6 +10,6 @@ returns g c =
     let parts = c.cut_runs-left.ensures in
     let cut = firsts_cut s.step s.positive c.args.index xs in
     record {
-      left = ap firsts (parts.left s.positive) ∙ cut.0;
-      right = ap firsts (parts.right s.positive) ∙ cut.1;
+      left = λ _. ap firsts (parts.left s.positive) ∙ cut.0;
+      right = λ _. ap firsts (parts.right s.positive) ∙ cut.1;
     }

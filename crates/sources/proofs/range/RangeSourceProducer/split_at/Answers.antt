@@ -9,4 +9,4 @@ pub returns : goal.returns
 returns c =
     let s = c.args.self in
     let cut = between_cut s.start c.args.index s.end c.min.result (omega arith) in
-    record { left = cut.0; right = cut.1 }
+    record { left = λ _. cut.0; right = λ _. cut.1 }
