@@ -1,9 +1,9 @@
 -- A producer that is cut between its runs.
 use Rattle.std.specs.Prelude.{◌≡◌, ℕ, ◌≤◌, List, [], ◌∷◌, ◌++◌, length}
-use Rattle.plumbing.specs.declared.producer.Producer.{Ghosts as Producing}
+use Rattle.plumbing.specs.declared.producer.Listed.{Ghosts as Listing}
 use Rattle.grouping.specs.Runs.{chunked}
 
-module _ {P I K : Type 0} (of : Producing P I K) (size : ℕ) (base : P) where
+module _ {P I : Type 0} (of : Listing P I) (size : ℕ) (base : P) where
   -- the runs of a producer
   abbrev pub runs : P → List (List I)
   runs p = chunked size (of.items p)

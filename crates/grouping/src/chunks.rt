@@ -9,7 +9,7 @@ use plumbing::board::Board;
 use plumbing::cursor::{BackCursor, Cursor};
 use plumbing::fold::fold_cursor;
 use plumbing::folder::Folder;
-use plumbing::producer::Producer;
+use plumbing::producer::{Listed, Producer};
 use plumbing::refusal::{Giver, Reason, Refusal, refuse_if};
 
 // A function of a run's list.
@@ -51,12 +51,14 @@ pub fn chunks<P: Producer, M: ChunkMap<In = P::Item>>(
     })
 }
 
-impl<P: Producer, M: ChunkMap<In = P::Item>> Producer for ChunkProducer<P, M> {
+impl<P: Listed, M: ChunkMap<In = P::Item>> Listed for ChunkProducer<P, M> {
     type Item = M::Out;
 
-    type IntoIter = ChunkSeq<P, M>;
-
     ghost items = { λ s. map (M.value s.map) (chunked s.chunk_size (P.items s.base)) };
+}
+
+impl<P: Producer, M: ChunkMap<In = P::Item>> Producer for ChunkProducer<P, M> {
+    type IntoIter = ChunkSeq<P, M>;
 
     ghost least = { λ s. run_count (P.least s.base) s.chunk_size };
 

@@ -32,7 +32,7 @@ pub fn cut_runs<P: Producer>(base: P, size: usize, k: usize) -> (P, P)
 
 // The first run, and what follows it.
 pub fn first_run<P: Producer>(base: P, size: usize) -> (P, P)
-    ensures { 1 ≤ size → 1 ≤ length (P.items base) → FirstRun P.Producer size base result }
+    ensures { 1 ≤ size → 1 ≤ length (P.items base) → FirstRun P.Listed size base result }
 {
     let at = size.min(base.len());
     base.split_at(at)
@@ -40,7 +40,7 @@ pub fn first_run<P: Producer>(base: P, size: usize) -> (P, P)
 
 // What stands before the last run, and the last run.
 pub fn last_run<P: Producer>(base: P, size: usize) -> (P, P)
-    ensures { 1 ≤ size → 1 ≤ length (P.items base) → LastRun P.Producer size base result }
+    ensures { 1 ≤ size → 1 ≤ length (P.items base) → LastRun P.Listed size base result }
 {
     let len = base.len();
     if len == 0 || size == 0 {

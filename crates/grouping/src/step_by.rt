@@ -9,7 +9,7 @@ use plumbing::board::Board;
 use plumbing::cursor::{BackCursor, Cursor};
 use plumbing::fold::fold_cursor;
 use plumbing::folder::Folder;
-use plumbing::producer::Producer;
+use plumbing::producer::{Listed, Producer};
 use plumbing::refusal::{Giver, Reason, Refusal, refuse_if};
 
 // The first item of each run of `step` items.
@@ -34,12 +34,14 @@ pub fn step_by<P: Producer>(
     Ok(StepByProducer { base, step })
 }
 
-impl<P: Producer> Producer for StepByProducer<P> {
+impl<P: Listed> Listed for StepByProducer<P> {
     type Item = P::Item;
 
-    type IntoIter = StepBySeq<P>;
-
     ghost items = { λ s. stepped s.step (P.items s.base) };
+}
+
+impl<P: Producer> Producer for StepByProducer<P> {
+    type IntoIter = StepBySeq<P>;
 
     ghost least = { λ s. run_count (P.least s.base) s.step };
 

@@ -7,12 +7,12 @@ use crate::turns::next_of;
 use plumbing::board::Board;
 use plumbing::cursor::{BackCursor, Cursor};
 use plumbing::folder::Folder;
-use plumbing::producer::Producer;
+use plumbing::producer::{Listed, Producer};
 use plumbing::refusal::{Giver, Reason, Refusal, refuse_if};
 
 // a, and then b.
 #[derive(Drop)]
-pub struct ChainProducer<A: Producer, B: Producer<Item = A::Item>> {
+pub struct ChainProducer<A: Listed, B: Listed<Item = A::Item>> {
     a: A,
     b: B,
     ghost fits: { length (A.items a) + length (B.items b) < 2 ^ 64 },
@@ -36,12 +36,14 @@ pub fn chain<A: Producer, B: Producer<Item = A::Item>>(
     Ok(ChainProducer { a, b })
 }
 
-impl<A: Producer, B: Producer<Item = A::Item>> Producer for ChainProducer<A, B> {
+impl<A: Listed, B: Listed<Item = A::Item>> Listed for ChainProducer<A, B> {
     type Item = A::Item;
 
-    type IntoIter = ChainSeq<A::IntoIter, B::IntoIter>;
-
     ghost items = { λ s. A.items s.a ++ B.items s.b };
+}
+
+impl<A: Producer, B: Producer<Item = A::Item>> Producer for ChainProducer<A, B> {
+    type IntoIter = ChainSeq<A::IntoIter, B::IntoIter>;
 
     ghost least = { λ s. max (A.least s.a) (B.least s.b) };
 

@@ -12,12 +12,12 @@ use plumbing::cursor::{BackCursor, Cursor};
 use plumbing::fold::fold_cursor;
 use plumbing::folder::Folder;
 use plumbing::fuse::Fuse;
-use plumbing::producer::Producer;
+use plumbing::producer::{Listed, Producer};
 use plumbing::refusal::{Giver, Reason, Refusal, refuse_if};
 
 // The items of i and j in turn, and then the rest of the longer. i starts, or j where `i_next` is set.
 #[derive(Drop)]
-pub struct InterleaveProducer<I: Producer, J: Producer<Item = I::Item>> {
+pub struct InterleaveProducer<I: Listed, J: Listed<Item = I::Item>> {
     i: I,
     j: J,
     i_next: bool,
@@ -88,12 +88,14 @@ fn deal(index: usize, i_len: usize, j_len: usize, i_next: bool) -> Shares
     }
 }
 
-impl<I: Producer, J: Producer<Item = I::Item>> Producer for InterleaveProducer<I, J> {
+impl<I: Listed, J: Listed<Item = I::Item>> Listed for InterleaveProducer<I, J> {
     type Item = I::Item;
 
-    type IntoIter = InterleaveSeq<I::IntoIter, J::IntoIter>;
-
     ghost items = { λ s. interleaved s.i_next (I.items s.i) (J.items s.j) };
+}
+
+impl<I: Producer, J: Producer<Item = I::Item>> Producer for InterleaveProducer<I, J> {
+    type IntoIter = InterleaveSeq<I::IntoIter, J::IntoIter>;
 
     ghost least = { λ s. max (I.least s.i) (J.least s.j) };
 

@@ -14,7 +14,7 @@ pub fn producer_len<P: Producer>(producer: &P) -> usize
 
 // The first items of a producer, as many as the index says, and the rest. Past the end it is refused.
 pub fn split_producer<P: Producer>(producer: P, index: usize) -> Result<(P, P), Refusal>
-    ensures { Splits P.Producer producer index result }
+    ensures { Splits P.Listed producer index result }
 {
     refuse_if(index > producer.len(), Reason::Cut, Giver::Split)?;
     Ok(producer.split_at(index))

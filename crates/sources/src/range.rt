@@ -7,7 +7,7 @@ use plumbing::board::Board;
 use plumbing::cursor::{BackCursor, Cursor};
 use plumbing::fold::fold_cursor;
 use plumbing::folder::Folder;
-use plumbing::producer::Producer;
+use plumbing::producer::{Listed, Producer};
 use plumbing::refusal::Refusal;
 
 // The numbers from `start` up to `end`, without `end`. There are none where `start` is not below `end`.
@@ -32,12 +32,14 @@ fn span(start: u64, end: u64) -> usize
     end.saturating_sub(start) as usize
 }
 
-impl Producer for RangeSource {
+impl Listed for RangeSource {
     type Item = u64;
 
-    type IntoIter = RangeCursor;
-
     ghost items = { λ s. between s.start s.end };
+}
+
+impl Producer for RangeSource {
+    type IntoIter = RangeCursor;
 
     ghost least = { λ _. 1 };
 

@@ -6,7 +6,7 @@ use plumbing::board::Board;
 use plumbing::cursor::{BackCursor, Cursor};
 use plumbing::fold::fold_cursor;
 use plumbing::folder::Folder;
-use plumbing::producer::Producer;
+use plumbing::producer::{Listed, Producer};
 use plumbing::refusal::Refusal;
 
 // A slice of plain values.
@@ -22,12 +22,14 @@ pub fn slice<'a, T: Copy>(slice: &'a [T]) -> Result<SliceSource<'a, T>, Refusal>
     Ok(SliceSource { slice })
 }
 
-impl<'a, T: Copy> Producer for SliceSource<'a, T> {
+impl<'a, T: Copy> Listed for SliceSource<'a, T> {
     type Item = T;
 
-    type IntoIter = SliceCursor<'a, T>;
-
     ghost items = { λ s. s.slice.now };
+}
+
+impl<'a, T: Copy> Producer for SliceSource<'a, T> {
+    type IntoIter = SliceCursor<'a, T>;
 
     ghost least = { λ _. 1 };
 

@@ -11,13 +11,13 @@ use plumbing::cursor::{BackCursor, Cursor};
 use plumbing::fold::fold_cursor;
 use plumbing::folder::Folder;
 use plumbing::fuse::Fuse;
-use plumbing::producer::Producer;
+use plumbing::producer::{Listed, Producer};
 use plumbing::refusal::{Giver, Reason, Refusal, refuse_if};
 
 // The base's items with one separator between neighbours; before them one more if `clone_first`,
 // and after them one more if `clone_last`.
 #[derive(Drop)]
-pub struct IntersperseProducer<P: Producer> {
+pub struct IntersperseProducer<P: Listed> {
     base: P,
     item: P::Item,
     clone_first: bool,
@@ -129,12 +129,14 @@ fn find_seam(index: usize, len: usize, first: bool, last: bool) -> Seam
     }
 }
 
-impl<P: Producer> Producer for IntersperseProducer<P> {
+impl<P: Listed> Listed for IntersperseProducer<P> {
     type Item = P::Item;
 
-    type IntoIter = IntersperseIter<P::IntoIter>;
-
     ghost items = { λ s. framed s.item s.clone_first (P.items s.base) s.clone_last };
+}
+
+impl<P: Producer> Producer for IntersperseProducer<P> {
+    type IntoIter = IntersperseIter<P::IntoIter>;
 
     ghost least = { λ s. P.least s.base };
 

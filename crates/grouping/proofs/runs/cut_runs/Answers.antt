@@ -8,7 +8,7 @@ pub returns : goal.returns
 returns g c =
     let size = c.args.size in
     let k = c.args.k in
-    let xs = g.P.Producer.items c.args.base in
+    let xs = g.P.Listed.items c.args.base in
     let at : c.min-at.result ≡ min (k * size) (length xs) = omega (arith, c.len.ensures, c.min-at.ensures, c.saturating_mul.ensures) in
     let left = c.split_at.ensures.left (omega (arith, c.len.ensures, c.min-at.ensures)) in
     let right = c.split_at.ensures.right (omega (arith, c.len.ensures, c.min-at.ensures)) in

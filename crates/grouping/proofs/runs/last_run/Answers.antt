@@ -7,7 +7,7 @@ use Rattle.grouping.proofs.runs.last_run.Goals as goal
 pub returns : goal.returns
 returns g c = λ pos some.
     let size = c.args.size in
-    let xs = g.P.Producer.items c.args.base in
+    let xs = g.P.Listed.items c.args.base in
     let n = c.len-len.result in
     let e : n ≡ length xs = c.len-len.ensures in
     let k = (n - 1) / size in
@@ -17,6 +17,6 @@ returns g c = λ pos some.
     let left = c.split_at-2.ensures.left (omega arith) in
     let right = c.split_at-2.ensures.right (omega arith) in
     record {
-      joined = chunked_last size pos k xs m refl (omega arith) (omega arith) ∙ ap (λ t. chunked size t ++ (drop m xs ∷ [])) (sym left) ∙ ap (λ t. chunked size (g.P.Producer.items c.split_at-2.result.0) ++ (t ∷ [])) (sym right);
+      joined = chunked_last size pos k xs m refl (omega arith) (omega arith) ∙ ap (λ t. chunked size t ++ (drop m xs ∷ [])) (sym left) ∙ ap (λ t. chunked size (g.P.Listed.items c.split_at-2.result.0) ++ (t ∷ [])) (sym right);
       some = omega (arith, ap length right ∙ length-drop m xs);
     }

@@ -7,7 +7,7 @@ pub returns : goal.returns
 returns g c =
     let s = c.args.self in
     let v = g.M.ChunkMap.value s.map in
-    let runs = chunked s.chunk_size (g.P.Producer.items s.base) in
+    let runs = chunked s.chunk_size (g.P.Listed.items s.base) in
     let parts = c.cut_runs-left.ensures in
     record {
       left = λ _. ap (map v) (parts.left s.positive) ∙ sym (take-map v c.args.index runs);

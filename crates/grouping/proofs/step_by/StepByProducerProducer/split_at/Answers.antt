@@ -6,7 +6,7 @@ use Rattle.grouping.proofs.step_by.StepByProducerProducer.split_at.Goals as goal
 pub returns : goal.returns
 returns g c =
     let s = c.args.self in
-    let xs = g.P.Producer.items s.base in
+    let xs = g.P.Listed.items s.base in
     let parts = c.cut_runs-left.ensures in
     let cut = firsts_cut s.step s.positive c.args.index xs in
     record {

@@ -7,8 +7,8 @@ pub returns : goal.returns
 returns g c =
     let s = c.args.self in
     let k = c.args.index in
-    let xs = g.I.Producer.items s.i in
-    let ys = g.J.Producer.items s.j in
+    let xs = g.I.Listed.items s.i in
+    let ys = g.J.Listed.items s.j in
     let r = c.deal-split.result in
     let n = length_interleaved s.i_next xs ys in
     let dealt : Dealt c.min.result (length xs) (length ys) s.i_next r = rw (c.len-i_len.ensures, c.len-j_len.ensures) at c.deal-split.ensures in

@@ -8,7 +8,7 @@ pub returns : goal.returns
 returns g c =
     let s = c.args.self in
     let k = c.args.index in
-    let xs = g.P.Producer.items s.base in
+    let xs = g.P.Listed.items s.base in
     let r = c.find_seam-seam.result in
     let parts = c.split_at-left.ensures in
     let seamed : Seamed c.min-index.result (length xs) s.clone_first s.clone_last r = rw c.len-2.ensures at c.find_seam-seam.ensures in
