@@ -26,7 +26,6 @@ pub returns : goal.returns
 returns c =
     let items : List (Vec ℕ _) = vec_items c.args.names.now.fields in
     let name = c.args.name.now in
-    record {
-      cases = first_of items name c.position.result (IsFirst-from_position _ _ c.position.result (λ v. vec_items v ≡ name) (λ v. vec_items v ≡ name → ⊥) c.position.ensures.ran (YieldsList-from_slice items (c.iter.ensures.rest ∙ c.deref.ensures.value))
-          (λ x q k. let h = k in search (rules, slice_eq-Decides Decides-eqb)) (λ x q k. search (rules, tests, slice_eq-Decides Decides-eqb)));
-    }
+    let found = IsFirst-from_position _ _ c.position.result (λ v. vec_items v ≡ name) (λ v. vec_items v ≡ name → ⊥) c.position.ensures.ran (YieldsList-from_slice items (c.iter.ensures.rest ∙ c.deref.ensures.value))
+    (λ x q k. let h = k in search (rules, slice_eq-Decides Decides-eqb)) (λ x q k. search (rules, tests, slice_eq-Decides Decides-eqb)) in
+    record { cases = first_of items name _ (search found) }
