@@ -180,7 +180,7 @@ fn without_rate(heap: Global, books: &Books) -> Result<Vec<String>, AllocError>
         .try_collect(heap)
 }
 
-// The page grows part by part, and each part goes once it is there, so that no two stand in memory beside it.
+// The page grows part by part, and each part goes once it is there.
 pub fn page(heap: Global, books: &Books) -> Result<String, AllocError> {
     let mut page = member_grid(heap, books)?.to_string(heap)?;
     page.push_str("\n")?;
