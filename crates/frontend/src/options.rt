@@ -1,7 +1,7 @@
 // The words that the program is given.
 ghost use Rattle.std.specs.Prelude.{◌+◌, ◌<◌, ◌^◌, List, [], ◌∷◌, ◌++◌, length};
 ghost use Rattle.frontend.specs.declared.options.Source.{Source};
-ghost use Rattle.frontend.specs.Words.{Asks, Counts};
+ghost use Rattle.frontend.specs.Words.{Asks, Counts, ReadsFormat};
 
 use crate::messages::Message;
 use ledger::files::Input;
@@ -31,17 +31,29 @@ pub(crate) enum Format {
 
 // What is not read as a format is given back.
 impl<'a> TryFrom<&'a str> for Format {
-    ghost use Rattle.frontend.specs.Words.{ReadsFormat};
+    ghost use Rattle.frontend.specs.Words.{FormatOf};
 
     type Error = &'a str;
 
-    ghost try_from_gives = { ReadsFormat };
+    ghost try_from_gives = { FormatOf };
 
     fn try_from(word: &'a str) -> Result<Format, &'a str> {
         match word {
             "text" => Ok(Format::Text),
             "tsv" => Ok(Format::Tsv),
             _ => Err(word),
+        }
+    }
+}
+
+impl Format {
+    // The format that a word asks for, or what is said of a word that asks for none.
+    fn read(heap: Global, word: &str) -> Result<Format, Message>
+        ensures { ReadsFormat word.now result }
+    {
+        match Format::try_from(word) {
+            Ok(format) => Ok(format),
+            Err(word) => Err(BadWords::Format(String::from_str(heap, word)?).into()),
         }
     }
 }
@@ -188,10 +200,7 @@ pub(crate) fn parse<'a>(heap: Global, words: &'a [String]) -> Result<Request<'a>
             "--help" => return Ok(Request::Help),
             "--format" => {
                 let name = words.next().ok_or(BadWords::FormatMissing)?;
-                format = match Format::try_from(name.as_str()) {
-                    Ok(format) => format,
-                    Err(word) => return Err(BadWords::Format(String::from_str(heap, word)?).into()),
-                };
+                format = Format::read(heap, name.as_str())?;
             }
             word if word.starts_with('-') && word != "-" => {
                 return Err(BadWords::Unknown(String::from_str(heap, word)?).into());
