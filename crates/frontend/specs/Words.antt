@@ -20,22 +20,15 @@ abbrev pub format_word : format.Format → List ℕ
 format_word Text = codes "text"
 format_word Tsv = codes "tsv"
 
--- A word is read as the format that it asks for, and every other word is given back.
-pub record FormatOf (word : Bor (List ℕ)) (r : Result format.Format (Bor (List ℕ))) : Type 0 where
-  pub made : IfOk r (λ f. word.now ≡ format_word f)
-  pub succeeds : (f : format.Format) → word.now ≡ format_word f → r ≡ Ok f
-  pub told : IfErr r (λ e. e ≡ word)
-
--- It is told that this word, after --format, is none of those that are wanted.
-abbrev pub TellsFormat : List ℕ → Message → Type 0
-TellsFormat word m = (w : String Global) × (m ≡ Words (bad.Format w)) × (string_bytes w ≡ word)
-
--- A word is read as the format that it asks for. No other word is read: that it is none is told, or that there is no
--- memory to tell it.
-pub record ReadsFormat (word : List ℕ) (r : Result format.Format Message) : Type 0 where
+-- A word is read as the format that it asks for, and no other word is read: of such a one Told holds of what is said.
+pub record ReadsFormat {E : Type 0} (word : List ℕ) (Told : E → Type 0) (r : Result format.Format E) : Type 0 where
   pub made : IfOk r (λ f. word ≡ format_word f)
   pub succeeds : (f : format.Format) → word ≡ format_word f → r ≡ Ok f
-  pub told : IfErr r (λ m. TellsFormat word m ⊎ (m ≡ Memory))
+  pub told : IfErr r Told
+
+-- It is told that this word, after --format, is none of those that are wanted, or that there is no memory to tell it.
+abbrev pub TellsFormat : List ℕ → Message → Type 0
+TellsFormat word m = ((w : String Global) × (m ≡ Words (bad.Format w)) × (string_bytes w ≡ word)) ⊎ (m ≡ Memory)
 
 -- A word names standard input, if it is -, and else the file of that name.
 abbrev pub Names : Bor (List ℕ) → Source → Type 0

@@ -1,7 +1,7 @@
 // The words that the program is given.
 ghost use Rattle.std.specs.Prelude.{◌+◌, ◌<◌, ◌^◌, List, [], ◌∷◌, ◌++◌, length};
 ghost use Rattle.frontend.specs.declared.options.Source.{Source};
-ghost use Rattle.frontend.specs.Words.{Asks, Counts, ReadsFormat};
+ghost use Rattle.frontend.specs.Words.{Asks, Counts, ReadsFormat, TellsFormat};
 
 use crate::messages::Message;
 use ledger::files::Input;
@@ -31,11 +31,12 @@ pub(crate) enum Format {
 
 // What is not read as a format is given back.
 impl<'a> TryFrom<&'a str> for Format {
-    ghost use Rattle.frontend.specs.Words.{FormatOf};
+    ghost use Rattle.std.specs.Prelude.{◌≡◌};
+    ghost use Rattle.frontend.specs.Words.{ReadsFormat};
 
     type Error = &'a str;
 
-    ghost try_from_gives = { FormatOf };
+    ghost try_from_gives = { λ word. ReadsFormat word.now (λ e. e ≡ word) };
 
     fn try_from(word: &'a str) -> Result<Format, &'a str> {
         match word {
@@ -49,7 +50,7 @@ impl<'a> TryFrom<&'a str> for Format {
 impl Format {
     // The format that a word asks for, or what is said of a word that asks for none.
     fn read(heap: Global, word: &str) -> Result<Format, Message>
-        ensures { ReadsFormat word.now result }
+        ensures { ReadsFormat word.now (TellsFormat word.now) result }
     {
         match Format::try_from(word) {
             Ok(format) => Ok(format),
